@@ -1,0 +1,18 @@
+-- What is kept of the records before record k, while none of them is at fault. Assumes nothing.
+use mathlib.Core.Path.{_≡_}
+use mathlib.Core.List.{List}
+use Prim.Native.Nat.{ℕ, _≤_, _<_}
+use lib.ListN.{getD}
+use Rattle.record_file.specs.declared.domains.Domains.{Domains}
+use Rattle.record_file.specs.Layout.{byte, Has-letter, O-letter, count-before, most-options, most-values}
+
+-- the O records come first, in the order of their options
+pub record Domains-before (file : List ℕ) (k : ℕ) (d : Domains) : Type 0 where
+  pub few : d .count ≤ most-options
+  pub leading : d .count ≤ k
+  pub counted : count-before file O-letter k ≡ d .count
+  pub letters : (j : ℕ) → j < d .count → Has-letter file j O-letter
+  pub options : (j : ℕ) → j < d .count → byte file j 1 ≡ j
+  pub sizes : (j : ℕ) → j < d .count → byte file j 2 ≡ getD (d .sizes) j 0
+  pub bounded : (j : ℕ) → j < d .count → getD (d .sizes) j 0 ≤ most-values
+  pub others : (j : ℕ) → d .count ≤ j → j < k → Has-letter file j O-letter → ⊥

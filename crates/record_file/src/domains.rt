@@ -1,0 +1,55 @@
+// The options that the records so far give, and how many values each has.
+ghost use mathlib.Core.Path.{_≡_};
+ghost use Prim.Native.Nat.{_+_, _≤_, _<_};
+ghost use lib.ListN.{getD, set};
+ghost use Rattle.std.specs.Options.{Cases};
+
+pub const MOST_OPTIONS: usize = 12;
+
+// The O records of a sound file come first, in the order of their options, so their count is the next option's number.
+#[derive(Clone, Copy)]
+pub(crate) struct Domains {
+    count: usize,
+    sizes: [u8; MOST_OPTIONS],
+}
+
+impl Domains {
+    pub(crate) fn new() -> Domains
+        ensures { λ r. ⌜ r .count ≡ 0 ⌝ }
+    {
+        Domains {
+            count: 0,
+            sizes: [0; MOST_OPTIONS],
+        }
+    }
+
+    pub(crate) fn count(&self) -> usize
+        ensures { λ r. ⌜ r ≡ now (self .entry) .count ⌝ }
+    {
+        self.count
+    }
+
+    // The number of values of an option, if it is given.
+    pub(crate) fn size(&self, option: u8) -> Option<u8>
+        requires { ⌜ now self .count ≤ 12 ⌝ }
+        ensures { λ r. ⌜ Cases r (now (self .entry) .count ≤ option)
+            (λ m. (option < now (self .entry) .count) × (m ≡ getD (now (self .entry) .sizes) option 0)) ⌝ }
+    {
+        let option = usize::from(option);
+        if option < self.count {
+            Some(self.sizes[option])
+        } else {
+            None
+        }
+    }
+
+    // One option more.
+    pub(crate) fn push(&mut self, size: u8)
+        requires { ⌜ now self .count < 12 ⌝ }
+        ensures count { λ _. ⌜ now (self .exit) .count ≡ now (self .entry) .count + 1 ⌝ }
+        ensures sizes { λ _. ⌜ now (self .exit) .sizes ≡ set (now (self .entry) .sizes) (now (self .entry) .count) size ⌝ }
+    {
+        self.sizes[self.count] = size;
+        self.count += 1;
+    }
+}

@@ -1,0 +1,13 @@
+// The record file of a rule book: reads its records, and checks it against the rules of the format.
+mod domains;
+mod fault;
+mod layout;
+mod record;
+mod rules;
+
+pub use fault::Fault;
+pub use fault::Layer;
+pub use fault::Rule;
+pub use layout::LONGEST_FILE;
+pub use layout::RECORD_LENGTH;
+pub use record::Record;
