@@ -4,11 +4,10 @@ use mathlib.Core.List.{List}
 use Prim.Native.Nat.{ℕ, _≤_, _<_}
 use lib.ListN.{getD}
 use Rattle.record_file.specs.declared.domains.Domains.{Domains}
-use Rattle.record_file.specs.Layout.{byte, Has-letter, O-letter, count-before, most-options, most-values}
+use Rattle.record_file.specs.Layout.{byte, Has-letter, O-letter, count-before, most-values}
 
 -- the O records come first, in the order of their options
 pub record Domains-before (file : List ℕ) (k : ℕ) (d : Domains) : Type 0 where
-  pub few : d .count ≤ most-options
   pub leading : d .count ≤ k
   pub counted : count-before file O-letter k ≡ d .count
   pub letters : (j : ℕ) → j < d .count → Has-letter file j O-letter

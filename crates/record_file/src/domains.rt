@@ -1,6 +1,7 @@
 // The options that the records so far give, and how many values each has.
 ghost use mathlib.Core.Path.{_≡_};
 ghost use Prim.Native.Nat.{_+_, _≤_, _<_};
+ghost use lib.Dec.{ltb};
 ghost use lib.ListN.{getD, set};
 ghost use Rattle.std.specs.Options.{Cases};
 
@@ -11,6 +12,7 @@ pub const MOST_OPTIONS: usize = 12;
 pub(crate) struct Domains {
     count: usize,
     sizes: [u8; MOST_OPTIONS],
+    ghost few: { count ≤ 12 },
 }
 
 impl Domains {
@@ -29,9 +31,15 @@ impl Domains {
         self.count
     }
 
+    // Whether an option is given.
+    pub(crate) fn contains(&self, option: u8) -> bool
+        ensures { λ r. ⌜ r ≡ ltb option (now (self .entry) .count) ⌝ }
+    {
+        usize::from(option) < self.count
+    }
+
     // The number of values of an option, if it is given.
     pub(crate) fn size(&self, option: u8) -> Option<u8>
-        requires { ⌜ now self .count ≤ 12 ⌝ }
         ensures { λ r. ⌜ Cases r (now (self .entry) .count ≤ option)
             (λ m. (option < now (self .entry) .count) × (m ≡ getD (now (self .entry) .sizes) option 0)) ⌝ }
     {

@@ -1,15 +1,22 @@
 // One function for each rule on a record: the byte at which the record breaks it, if it does.
 ghost use mathlib.Core.Path.{_≡_};
 ghost use Prim.Native.Nat.{_<_};
-ghost use Rattle.record_file.specs.Layout.{whole-records, record-length};
-ghost use Rattle.record_file.specs.Rules.{unused};
+ghost use Rattle.std.specs.Orderings.{Decides};
+ghost use Rattle.record_file.specs.Layout.{whole-records, record-length, count-before, L-letter};
+ghost use Rattle.record_file.specs.Rules.{unused, Unknown-first, Unknown-value, Unknown-second};
 ghost use Rattle.record_file.specs.Faults.{Breaks, Finds};
-ghost use Rattle.record_file.specs.declared.fault.Rule.the-variants.{UnknownLetter, ValueCount, ReservedByte};
+ghost use Rattle.record_file.specs.Tallies.{Domains-before};
+ghost use Rattle.record_file.specs.declared.fault.Rule.the-variants.{UnknownLetter, MisplacedOption, ValueCount};
+ghost use Rattle.record_file.specs.declared.fault.Rule.the-variants.{UnknownReference, ReservedByte, TooManyInequalities};
+use crate::domains::Domains;
+use crate::domains::MOST_OPTIONS;
 use crate::layout::RECORD_LENGTH;
 use crate::layout::byte_at;
 use crate::layout::letter_at;
 
 const MOST_VALUES: u8 = 32;
+
+const MOST_INEQUALITIES: usize = 16;
 
 pub(crate) fn unknown_letter(file: &[u8], number: usize) -> Option<u8>
     requires { ⌜ number < whole-records (now file) ⌝ }
@@ -19,6 +26,22 @@ pub(crate) fn unknown_letter(file: &[u8], number: usize) -> Option<u8>
         'O' | 'R' | 'L' | 'P' => None,
         _ => Some(0),
     }
+}
+
+// The O records so far are the first ones, so a record of another kind stands before this one where they are fewer.
+pub(crate) fn misplaced_option(file: &[u8], number: usize, domains: &Domains) -> Option<u8>
+    requires there { ⌜ number < whole-records (now file) ⌝ }
+    requires before { ⌜ Domains-before (now file) number (now domains) ⌝ }
+    ensures { λ r. ⌜ Finds r (Breaks (now (file .entry)) MisplacedOption number) ⌝ }
+{
+    if letter_at(file, number) != 'O' {
+        return None;
+    }
+    let count = domains.count();
+    if count < number || usize::from(byte_at(file, number, 1)) != count || count >= MOST_OPTIONS {
+        return Some(1);
+    }
+    None
 }
 
 pub(crate) fn value_count(file: &[u8], number: usize) -> Option<u8>
@@ -54,6 +77,76 @@ pub(crate) fn reserved_byte(file: &[u8], number: usize) -> Option<u8>
         if is_unused(letter, at) && byte_at(file, number, at) != 0 {
             return Some(at as u8);
         }
+    }
+    None
+}
+
+// Whether byte 1 of an R, L or P record names an option that is not known.
+fn names_unknown_option(file: &[u8], number: usize, domains: &Domains) -> bool
+    requires there { ⌜ number < whole-records (now file) ⌝ }
+    requires before { ⌜ Domains-before (now file) number (now domains) ⌝ }
+    ensures { λ r. ⌜ Decides r (Unknown-first (now (file .entry)) number) ⌝ }
+{
+    match letter_at(file, number) {
+        'R' | 'L' | 'P' => !domains.contains(byte_at(file, number, 1)),
+        _ => false,
+    }
+}
+
+// Whether byte 2 of an R or P record names a value that its option is not known to have.
+fn names_unknown_value(file: &[u8], number: usize, domains: &Domains) -> bool
+    requires there { ⌜ number < whole-records (now file) ⌝ }
+    requires before { ⌜ Domains-before (now file) number (now domains) ⌝ }
+    ensures { λ r. ⌜ Decides r (Unknown-value (now (file .entry)) number) ⌝ }
+{
+    match letter_at(file, number) {
+        'R' | 'P' => match domains.size(byte_at(file, number, 1)) {
+            Some(size) => byte_at(file, number, 2) >= size,
+            None => true,
+        },
+        _ => false,
+    }
+}
+
+// Whether byte 3 of an R or L record names an option that is not known, or not above the first.
+fn names_unknown_other(file: &[u8], number: usize, domains: &Domains) -> bool
+    requires there { ⌜ number < whole-records (now file) ⌝ }
+    requires before { ⌜ Domains-before (now file) number (now domains) ⌝ }
+    ensures { λ r. ⌜ Decides r (Unknown-second (now (file .entry)) number) ⌝ }
+{
+    match letter_at(file, number) {
+        'R' | 'L' => {
+            let other = byte_at(file, number, 3);
+            !domains.contains(other) || other <= byte_at(file, number, 1)
+        }
+        _ => false,
+    }
+}
+
+pub(crate) fn unknown_reference(file: &[u8], number: usize, domains: &Domains) -> Option<u8>
+    requires there { ⌜ number < whole-records (now file) ⌝ }
+    requires before { ⌜ Domains-before (now file) number (now domains) ⌝ }
+    ensures { λ r. ⌜ Finds r (Breaks (now (file .entry)) UnknownReference number) ⌝ }
+{
+    if names_unknown_option(file, number, domains) {
+        return Some(1);
+    }
+    if names_unknown_value(file, number, domains) {
+        return Some(2);
+    }
+    if names_unknown_other(file, number, domains) {
+        return Some(3);
+    }
+    None
+}
+
+pub(crate) fn too_many_inequalities(file: &[u8], number: usize, so_far: usize) -> Option<u8>
+    requires there { ⌜ number < whole-records (now file) ⌝ }
+    requires before { ⌜ «so_far» ≡ count-before (now file) L-letter number ⌝ }
+    ensures { λ r. ⌜ Finds r (Breaks (now (file .entry)) TooManyInequalities number) ⌝ }
+{
+    if letter_at(file, number) == 'L' && so_far >= MOST_INEQUALITIES {
+        return Some(0);
     }
     None
 }

@@ -1,0 +1,2 @@
+pub mod OptionRecords
+pub mod FirstBytes
