@@ -1,0 +1,102 @@
+// A set of the values of one option.
+ghost use mathlib.Core.Path.{_≡_};
+ghost use mathlib.Core.Bool.{true, false, not, _&&_, _||_};
+ghost use Prim.Native.Nat.{ℕ};
+ghost use lib.Dec.{eqb, ltb};
+ghost use Rattle.std.specs.Orderings.{Decides};
+ghost use Rattle.value_set.specs.Members.{has, member, NoMember, Within};
+
+/// An option has at most this many values, which are numbered from 0.
+pub const VALUES: u32 = 32;
+
+/// A set of the values 0 to 31 of an option: bit v of the mask stands for value v.
+#[derive(Clone, Copy, PartialEq, Eq, Debug)]
+pub struct ValueSet {
+    mask: u32,
+}
+
+impl ValueSet {
+    /// The set with no value.
+    pub const EMPTY: ValueSet = ValueSet { mask: 0 };
+
+    pub fn from_mask(mask: u32) -> ValueSet
+        ensures { λ r. ⌜ r .mask ≡ mask ⌝ }
+    {
+        ValueSet { mask }
+    }
+
+    pub fn mask(self) -> u32
+        ensures { λ r. ⌜ r ≡ self .mask ⌝ }
+    {
+        self.mask
+    }
+
+    /// The values below `count`, all of them where it is no smaller than their number.
+    pub fn first(count: u8) -> ValueSet
+        ensures { λ r. ⌜ ((v : ℕ) → member r v ≡ (ltb v count && ltb v 32)) ⌝ }
+    {
+        let mask = if u32::from(count) < VALUES {
+            (1 << count) - 1
+        } else {
+            u32::MAX
+        };
+        ValueSet { mask }
+    }
+
+    pub fn contains(self, value: u8) -> bool
+        ensures { λ r. ⌜ r ≡ member self value ⌝ }
+    {
+        self.mask & bit(value) != 0
+    }
+
+    /// The values that are in both sets.
+    pub fn common(self, other: ValueSet) -> ValueSet
+        ensures { λ r. ⌜ ((v : ℕ) → member r v ≡ (member self v && member other v)) ⌝ }
+    {
+        ValueSet {
+            mask: self.mask & other.mask,
+        }
+    }
+
+    pub fn is_empty(self) -> bool
+        ensures { λ r. ⌜ Decides r (NoMember self) ⌝ }
+    {
+        self.mask == 0
+    }
+
+    /// Whether each value of this set is in the other.
+    pub fn is_within(self, other: ValueSet) -> bool
+        ensures { λ r. ⌜ Decides r (Within self other) ⌝ }
+    {
+        self.common(other) == self
+    }
+
+    /// The set with this value added; a value from `VALUES` on changes nothing.
+    pub fn with(self, value: u8) -> ValueSet
+        ensures { λ r. ⌜ ((v : ℕ) → member r v ≡ (member self v || (eqb v value && ltb v 32))) ⌝ }
+    {
+        ValueSet {
+            mask: self.mask | bit(value),
+        }
+    }
+
+    /// The set with this value removed.
+    pub fn without(self, value: u8) -> ValueSet
+        ensures { λ r. ⌜ ((v : ℕ) → member r v ≡ (member self v && not (eqb v value))) ⌝ }
+    {
+        ValueSet {
+            mask: self.mask & !bit(value),
+        }
+    }
+}
+
+/// The mask of the set of this value alone, with no bit where the value is too large for a set.
+fn bit(value: u8) -> u32
+    ensures { λ r. ⌜ ((v : ℕ) → has r v ≡ (eqb v value && ltb v 32)) ⌝ }
+{
+    if u32::from(value) < VALUES {
+        1 << value
+    } else {
+        0
+    }
+}
