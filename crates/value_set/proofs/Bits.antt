@@ -1,16 +1,16 @@
 -- The bits of a mask as membership: what the operations on masks do to `has`. Assumes nothing.
 use mathlib.Core.Path.{_≡_, refl, sym, ap, ap₂, subst, _∙_}
 use mathlib.Core.Logic.{⊎-elim}
-use mathlib.Core.Bool.{Bool, true, false, not, _&&_, _||_}
+use mathlib.Core.Bool.{Bool, true, false, not, _&&_, _||_, cond}
 use Prim.Native.Nat.{ℕ, zero, suc, _+_, _-_, _*_, _/_, _%_, _^_, _≤_, _<_}
 use native.Mathlib.Nat.{pow-suc}
 use native.Mathlib.Omega.{arith}
 use lib.Dec.{eqb, ltb, leb·suc-suc}
-use lib.Bits.{bitAnd, bitOr, and-shr, and-mod, or-shr, or-mod}
+use lib.Bits.{bitAnd, bitOr, and-shr, and-mod, or-shr, or-mod, or-shifted-r, or-zero-r}
 use Rattle.std.proofs.shelf.Bits.{pow-pos, shr-shr}
 use Rattle.std.proofs.shelf.Tests.{cases-bool, cases-eq, cases-lt, eq-eqb, ne-eqb, lt-ltb, le-ltb, and-from, and-left, and-right, not-from-false, not-from-true, true≢false, false≢true}
 use Rattle.std.proofs.shelf.Ways.{tells}
-use Rattle.value_set.specs.Members.{has}
+use Rattle.value_set.specs.Members.{has, mask-below}
 
 -- ---- bit by bit, lowest first
 
@@ -32,6 +32,10 @@ pub has-above : (n m v : ℕ) → m < 2 ^ n → n ≤ v → has m v ≡ false
 has-above zero m v h le = ap (λ k. has k v) (omega arith) ∙ has-none v
 has-above (suc n) m zero h le = absurd (omega arith)
 has-above (suc n) m (suc v) h le = has-suc m v ∙ has-above n (m / 2) v (omega (arith, pow-suc 2 n)) (omega arith)
+
+pub has-below : (n m v : ℕ) → m < 2 ^ n → has m v ≡ true → v < n
+has-below n m v h there =
+    ⊎-elim (λ lt. lt) (λ le. absurd (true≢false (sym there ∙ has-above n m v h le))) (cases-lt v n)
 
 -- ---- the operations
 
@@ -134,7 +138,7 @@ meets-single n m b k fits single = ⊎-elim there missing (cases-bool (has m k))
   where
     there : has m k ≡ true → not (eqb (bitAnd m b) 0) ≡ has m k
     there e =
-        let below : k < n = ⊎-elim (λ lt. lt) (λ le. absurd (true≢false (sym e ∙ has-above n m k fits le))) (cases-lt k n) in
+        let below = has-below n m k fits e in
         let alone : has b k ≡ true = single k ∙ and-from _ _ (eq-eqb k k refl) (lt-ltb k n below) in
         let both : has (bitAnd m b) k ≡ true = has-and m b k ∙ and-from _ _ e alone in
         not-from-false _ (ne-eqb (bitAnd m b) 0 (λ z. false≢true (sym (ap (λ a. has a k) z ∙ has-none k) ∙ both))) ∙ sym e
@@ -146,3 +150,35 @@ meets-single n m b k fits single = ⊎-elim there missing (cases-bool (has m k))
         (λ other. and-right _ _ (and-left _ _ (ne-eqb v k other)))
         (cases-eq v k) in
         not-from-true _ (eq-eqb (bitAnd m b) 0 (none-zero (bitAnd m b) none)) ∙ sym e
+
+-- ---- the mask of a test
+
+mask-at : (n v : ℕ) (b : Bool) → has (cond b (2 ^ n) 0) v ≡ (b && eqb v n)
+mask-at n v true = has-single n v
+mask-at n v false = has-none v
+
+-- one bit more on top
+mask-top : (n : ℕ) (p : ℕ → Bool) → mask-below n p < 2 ^ n → mask-below (suc n) p ≡ bitOr (mask-below n p) (cond (p n) (2 ^ n) 0)
+unfolding mask-below
+mask-top n p fits = top (p n)
+  where
+    top : (b : Bool) → mask-below n p + cond b (2 ^ n) 0 ≡ bitOr (mask-below n p) (cond b (2 ^ n) 0)
+    top true = sym (ap (bitOr (mask-below n p)) (omega arith) ∙ or-shifted-r 1 n (mask-below n p) fits ∙ omega arith)
+    top false = omega arith ∙ sym (or-zero-r (mask-below n p))
+
+pub mask-lt : (n : ℕ) (p : ℕ → Bool) → mask-below n p < 2 ^ n
+unfolding mask-below
+mask-lt zero p = omega arith
+mask-lt (suc n) p = omega (arith, mask-lt n p, pow-suc 2 n, part (p n))
+  where
+    part : (b : Bool) → cond b (2 ^ n) 0 ≤ 2 ^ n
+    part true = omega arith
+    part false = omega arith
+
+pub has-mask : (n : ℕ) (p : ℕ → Bool) (v : ℕ) → has (mask-below n p) v ≡ (p v && ltb v n)
+unfolding mask-below
+has-mask zero p v = has-none v ∙ sym (and-right (p v) _ (le-ltb v 0 (omega arith)))
+has-mask (suc n) p v =
+    ap (λ m. has m v) (mask-top n p (mask-lt n p)) ∙ has-or (mask-below n p) (cond (p n) (2 ^ n) 0) v
+    ∙ ap₂ _||_ (has-mask n p v) (mask-at n v (p n))
+    ∙ ⊎-elim (λ same. let at = ap p same in grind (arith, tells)) (λ other. grind (arith, tells)) (cases-eq v n)

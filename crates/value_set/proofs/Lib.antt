@@ -1,1 +1,5 @@
 pub mod Bits
+pub mod Counts
+pub mod Leasts
+pub mod Sizes
+pub mod Passed

@@ -1,10 +1,11 @@
 // A set of the values of one option.
 ghost use mathlib.Core.Path.{_≡_};
 ghost use mathlib.Core.Bool.{true, false, not, _&&_, _||_};
-ghost use Prim.Native.Nat.{ℕ};
+ghost use Prim.Native.Nat.{ℕ, _≤_, _<_};
 ghost use lib.Dec.{eqb, ltb};
+ghost use Rattle.std.specs.Options.{Cases as BySome};
 ghost use Rattle.std.specs.Orderings.{Decides};
-ghost use Rattle.value_set.specs.Members.{has, member, NoMember, Within};
+ghost use Rattle.value_set.specs.Members.{has, member, size, Least, NoMember, Within};
 
 /// An option has at most this many values, which are numbered from 0.
 pub const VALUES: u32 = 32;
@@ -62,6 +63,24 @@ impl ValueSet {
         ensures { λ r. ⌜ Decides r (NoMember self) ⌝ }
     {
         self.mask == 0
+    }
+
+    /// The number of values.
+    pub fn len(self) -> u32
+        ensures value { λ r. ⌜ r ≡ size self ⌝ }
+        ensures bound { λ r. ⌜ r ≤ 32 ⌝ }
+    {
+        self.mask.count_ones()
+    }
+
+    /// The least value, if there is one.
+    pub fn least(self) -> Option<u8>
+        ensures { λ r. ⌜ BySome r (NoMember self) (λ v. (v < 32) × Least (member self) v) ⌝ }
+    {
+        if self.is_empty() {
+            return None;
+        }
+        Some(self.mask.trailing_zeros() as u8)
     }
 
     /// Whether each value of this set is in the other.
