@@ -1,2 +1,4 @@
 pub mod OptionRecords
 pub mod FirstBytes
+pub mod Marking
+pub mod Beyond

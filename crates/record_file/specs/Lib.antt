@@ -1,6 +1,6 @@
-pub mod Sets
 pub mod Layout
 pub mod Rules
 pub mod Faults
 pub mod Reading
 pub mod Tallies
+pub mod Marks

@@ -10,7 +10,7 @@ use lib.ListN.{length}
 use Rattle.record_file.specs.Layout.{record-length, longest-file, most-options, most-values, most-inequalities}
 use Rattle.record_file.specs.Layout.{byte, word, Has-letter, O-letter, R-letter, L-letter, P-letter, count-before}
 use Rattle.record_file.specs.Layout.{Gives, Known-option, Known-value}
-use Rattle.record_file.specs.Sets.{has}
+use Rattle.value_set.specs.Members.{has}
 
 -- 1: the file is too long
 abbrev pub Too-long : List ℕ → Type 0

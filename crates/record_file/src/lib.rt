@@ -2,8 +2,10 @@
 mod domains;
 mod fault;
 mod layout;
+mod marks;
 mod record;
 mod rules;
+mod tally;
 
 pub use fault::Fault;
 pub use fault::Layer;

@@ -1,18 +1,21 @@
 // One function for each rule on a record: the byte at which the record breaks it, if it does.
 ghost use mathlib.Core.Path.{_≡_};
-ghost use Prim.Native.Nat.{_<_};
+ghost use Prim.Native.Nat.{_+_, _<_, _≤_};
 ghost use Rattle.std.specs.Orderings.{Decides};
-ghost use Rattle.record_file.specs.Layout.{whole-records, record-length, count-before, L-letter};
+ghost use Rattle.record_file.specs.Layout.{whole-records, record-length, word, count-before, L-letter};
 ghost use Rattle.record_file.specs.Rules.{unused, Unknown-first, Unknown-value, Unknown-second};
 ghost use Rattle.record_file.specs.Faults.{Breaks, Finds};
-ghost use Rattle.record_file.specs.Tallies.{Domains-before};
+ghost use Rattle.record_file.specs.Tallies.{Domains-before, Tally-before};
 ghost use Rattle.record_file.specs.declared.fault.Rule.the-variants.{UnknownLetter, MisplacedOption, ValueCount};
-ghost use Rattle.record_file.specs.declared.fault.Rule.the-variants.{UnknownReference, ReservedByte, TooManyInequalities};
+ghost use Rattle.record_file.specs.declared.fault.Rule.the-variants.{UnknownReference, MaskBeyondValues, ReservedByte};
+ghost use Rattle.record_file.specs.declared.fault.Rule.the-variants.{Duplicate, TooManyInequalities};
 use crate::domains::Domains;
 use crate::domains::MOST_OPTIONS;
 use crate::layout::RECORD_LENGTH;
 use crate::layout::byte_at;
 use crate::layout::letter_at;
+use crate::tally::Tally;
+use value_set::ValueSet;
 
 const MOST_VALUES: u8 = 32;
 
@@ -138,6 +141,48 @@ pub(crate) fn unknown_reference(file: &[u8], number: usize, domains: &Domains) -
         return Some(3);
     }
     None
+}
+
+// The number in the four bytes of a record from byte `at` on, the lowest first.
+fn word_at(file: &[u8], number: usize, at: usize) -> u32
+    requires there { ⌜ number < whole-records (now file) ⌝ }
+    requires within { ⌜ at + 4 ≤ record-length ⌝ }
+    ensures { λ r. ⌜ r ≡ word (now (file .entry)) number at ⌝ }
+{
+    u32::from_le_bytes([
+        byte_at(file, number, at),
+        byte_at(file, number, at + 1),
+        byte_at(file, number, at + 2),
+        byte_at(file, number, at + 3),
+    ])
+}
+
+pub(crate) fn mask_beyond_values(file: &[u8], number: usize, domains: &Domains) -> Option<u8>
+    requires there { ⌜ number < whole-records (now file) ⌝ }
+    requires before { ⌜ Domains-before (now file) number (now domains) ⌝ }
+    ensures { λ r. ⌜ Finds r (Breaks (now (file .entry)) MaskBeyondValues number) ⌝ }
+{
+    if letter_at(file, number) != 'R' {
+        return None;
+    }
+    let size = domains.size(byte_at(file, number, 3))?;
+    let mask = ValueSet::from_mask(word_at(file, number, 4));
+    if mask.is_within(ValueSet::first(size)) { None } else { Some(4) }
+}
+
+pub(crate) fn duplicate(file: &[u8], number: usize, tally: &Tally) -> Option<u8>
+    requires there { ⌜ number < whole-records (now file) ⌝ }
+    requires before { ⌜ Tally-before (now file) number (now tally) ⌝ }
+    ensures { λ r. ⌜ Finds r (Breaks (now (file .entry)) Duplicate number) ⌝ }
+{
+    let option = byte_at(file, number, 1);
+    let value = byte_at(file, number, 2);
+    let repeated = match letter_at(file, number) {
+        'R' => tally.has_row(option, value, byte_at(file, number, 3)),
+        'P' => tally.has_price(option, value),
+        _ => false,
+    };
+    if repeated { Some(1) } else { None }
 }
 
 pub(crate) fn too_many_inequalities(file: &[u8], number: usize, so_far: usize) -> Option<u8>
