@@ -44,6 +44,10 @@ layer-of ReservedByte = layer.Record
 layer-of Duplicate = layer.Book
 layer-of TooManyInequalities = layer.Book
 
+-- a fault of a rule, with the rule's layer
+abbrev pub fault-at : Rule → ℕ → ℕ → Fault
+fault-at rule k b = record { rule = rule; «record» = k; byte = b; layer = layer-of rule }
+
 -- b is the first byte at which P holds
 pub record First-byte (P : ℕ → Type 0) (b : ℕ) : Type 0 where
   pub holds : P b
@@ -82,13 +86,29 @@ Sooner r k s l =
 
 -- the fault that is named: its rule is broken there, and no rule that is looked at sooner is broken
 pub record First-fault (file : List ℕ) (f : Fault) : Type 0 where
-  pub broken : Breaks file (f .rule) (f .record) (f .byte)
-  pub first : (r : Rule) (k b : ℕ) → Breaks file r k b → Sooner r k (f .rule) (f .record) → ⊥
+  pub broken : Breaks file (f .rule) (f .«record») (f .byte)
+  pub first : (r : Rule) (k b : ℕ) → Breaks file r k b → Sooner r k (f .rule) (f .«record») → ⊥
   pub layer : f .layer ≡ layer-of (f .rule)
 
 -- no rule is broken anywhere in the file
 abbrev pub Sound : List ℕ → Type 0
 Sound file = (r : Rule) (k b : ℕ) → Breaks file r k b → ⊥
+
+-- no rule on the file as a whole is broken
+abbrev pub Sound-file : List ℕ → Type 0
+Sound-file file = (r : Rule) (k b : ℕ) → layer-of r ≡ layer.File → Breaks file r k b → ⊥
+
+-- no rule on records is broken at record k
+abbrev pub Sound-record : List ℕ → ℕ → Type 0
+Sound-record file k = (r : Rule) (b : ℕ) → (layer-of r ≡ layer.File → ⊥) → Breaks file r k b → ⊥
+
+-- the fault of record k that is named: of the rules on records that it breaks, the one with the smallest number
+pub record First-in-record (file : List ℕ) (k : ℕ) (f : Fault) : Type 0 where
+  pub place : f .«record» ≡ k
+  pub on-record : layer-of (f .rule) ≡ layer.File → ⊥
+  pub broken : Breaks file (f .rule) k (f .byte)
+  pub first : (r : Rule) (b : ℕ) → (layer-of r ≡ layer.File → ⊥) → Breaks file r k b → number-of r < number-of (f .rule) → ⊥
+  pub layer : f .layer ≡ layer-of (f .rule)
 
 -- a rule's answer at a record: the byte at which it is broken, or none where it is not
 abbrev pub Finds : Option ℕ → (ℕ → Type 0) → Type 0

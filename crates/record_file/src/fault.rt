@@ -1,6 +1,6 @@
 // What can be wrong with a record file: the rules by name and number, and a fault with the place where it lies.
 ghost use mathlib.Core.Path.{_≡_};
-ghost use Rattle.record_file.specs.Faults.{number-of, layer-of};
+ghost use Rattle.record_file.specs.Faults.{number-of, layer-of, fault-at};
 
 // A rule of the record file. A file that breaks it is refused under the rule's number.
 #[derive(Clone, Copy, PartialEq, Eq, Debug)]
@@ -49,6 +49,20 @@ impl Rule {
             Rule::TooLong | Rule::PartialRecord | Rule::NoRecord => Layer::File,
             Rule::Duplicate | Rule::TooManyInequalities => Layer::Book,
             _ => Layer::Record,
+        }
+    }
+}
+
+impl Fault {
+    // A fault of a rule, with the rule's layer.
+    pub(crate) fn new(rule: Rule, record: usize, byte: u8) -> Fault
+        ensures { λ r. ⌜ r ≡ fault-at rule «record» byte ⌝ }
+    {
+        Fault {
+            rule,
+            record,
+            byte,
+            layer: rule.layer(),
         }
     }
 }

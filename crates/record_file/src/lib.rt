@@ -1,4 +1,5 @@
 // The record file of a rule book: reads its records, and checks it against the rules of the format.
+mod check;
 mod domains;
 mod fault;
 mod layout;

@@ -1,0 +1,84 @@
+// The check of a file: acceptance, or the first fault in the order in which faults are looked for.
+ghost use mathlib.Core.Path.{_≡_};
+ghost use Prim.Native.Nat.{_<_};
+ghost use Rattle.std.specs.Options.{Cases};
+ghost use Rattle.record_file.specs.Layout.{whole-records};
+ghost use Rattle.record_file.specs.Faults.{Breaks, Finds, layer-of};
+ghost use Rattle.record_file.specs.Faults.{Sound-file, Sound-record, First-in-record, First-fault};
+ghost use Rattle.record_file.specs.declared.fault.Layer.the-variants.{File};
+ghost use Rattle.record_file.specs.Tallies.{Tally-before};
+use crate::fault::Fault;
+use crate::fault::Rule;
+use crate::layout::LONGEST_FILE;
+use crate::layout::RECORD_LENGTH;
+use crate::rules::duplicate;
+use crate::rules::mask_beyond_values;
+use crate::rules::misplaced_option;
+use crate::rules::reserved_byte;
+use crate::rules::too_many_inequalities;
+use crate::rules::unknown_letter;
+use crate::rules::unknown_reference;
+use crate::rules::value_count;
+use crate::tally::Tally;
+
+// The rules on a record, in the order in which they are looked at.
+const RECORD_RULES: [Rule; 8] = [
+    Rule::UnknownLetter,
+    Rule::MisplacedOption,
+    Rule::ValueCount,
+    Rule::UnknownReference,
+    Rule::MaskBeyondValues,
+    Rule::ReservedByte,
+    Rule::Duplicate,
+    Rule::TooManyInequalities,
+];
+
+// The first fault of the file as a whole, if it has one.
+fn file_fault(file: &[u8]) -> Option<Fault>
+    ensures { λ r. ⌜ Cases r (Sound-file (now (file .entry))) (First-fault (now (file .entry))) ⌝ }
+{
+    let records = file.len() / RECORD_LENGTH;
+    if file.len() > LONGEST_FILE {
+        return Some(Fault::new(Rule::TooLong, LONGEST_FILE / RECORD_LENGTH, 0));
+    }
+    if file.len() % RECORD_LENGTH != 0 {
+        return Some(Fault::new(Rule::PartialRecord, records, 0));
+    }
+    if records == 0 {
+        return Some(Fault::new(Rule::NoRecord, 0, 0));
+    }
+    None
+}
+
+// The byte at which a record breaks a rule on records, if it does.
+fn broken_at(rule: Rule, file: &[u8], number: usize, tally: &Tally) -> Option<u8>
+    requires there { ⌜ number < whole-records (now file) ⌝ }
+    requires before { ⌜ Tally-before (now file) number (now tally) ⌝ }
+    ensures { λ r. ⌜ ((layer-of rule ≡ File → ⊥) → Finds r (Breaks (now (file .entry)) rule number)) ⌝ }
+{
+    match rule {
+        Rule::TooLong | Rule::PartialRecord | Rule::NoRecord => None,
+        Rule::UnknownLetter => unknown_letter(file, number),
+        Rule::MisplacedOption => misplaced_option(file, number, tally.domains()),
+        Rule::ValueCount => value_count(file, number),
+        Rule::UnknownReference => unknown_reference(file, number, tally.domains()),
+        Rule::MaskBeyondValues => mask_beyond_values(file, number, tally.domains()),
+        Rule::ReservedByte => reserved_byte(file, number),
+        Rule::Duplicate => duplicate(file, number, tally),
+        Rule::TooManyInequalities => too_many_inequalities(file, number, tally.inequalities()),
+    }
+}
+
+// The first fault of a record, if it has one.
+fn record_fault(file: &[u8], number: usize, tally: &Tally) -> Option<Fault>
+    requires there { ⌜ number < whole-records (now file) ⌝ }
+    requires before { ⌜ Tally-before (now file) number (now tally) ⌝ }
+    ensures { λ r. ⌜ Cases r (Sound-record (now (file .entry)) number) (First-in-record (now (file .entry)) number) ⌝ }
+{
+    for rule in &RECORD_RULES {
+        if let Some(byte) = broken_at(*rule, file, number, tally) {
+            return Some(Fault::new(*rule, number, byte));
+        }
+    }
+    None
+}
