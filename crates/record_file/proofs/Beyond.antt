@@ -18,10 +18,10 @@ some-below (suc n) p =
     ⊎-elim
     (λ found. inl (found .0, omega (arith, found .1), found .2))
     (λ none.
-        ⊎-elim
-        (λ here. inl (n, omega arith, here))
-        (λ here. inr (λ v lt. ⊎-elim (λ same. ap p same ∙ here) (⊎-elim (λ below. none v below) (λ above. absurd (omega arith))) (cases-order v n)))
-        (cases-bool (p n)))
+    ⊎-elim
+    (λ here. inl (n, omega arith, here))
+    (λ here. inr (λ v lt. ⊎-elim (λ same. ap p same ∙ here) (⊎-elim (λ below. none v below) (λ above. absurd (omega arith))) (cases-order v n)))
+    (cases-bool (p n)))
     (some-below n p)
 
 both-true : (a b : Bool) → (a && b) ≡ true → (a ≡ true) × (b ≡ true)
@@ -45,7 +45,7 @@ value-beyond m s t fits first outside =
     ⊎-elim
     (λ found. let both = both-true _ _ (found .2) in (found .0, leb-true _ _ (both .1), is-true _ (both .0)))
     (λ none.
-        absurd (outside (λ v there.
-            let low = has-below 32 (s .mask) v fits there in
-            first v ∙ in-first m v low (leb-false _ _ (not-there _ _ (none v low) there)))))
+    absurd (outside (λ v there.
+    let low = has-below 32 (s .mask) v fits there in
+    first v ∙ in-first m v low (leb-false _ _ (not-there _ _ (none v low) there)))))
     (some-below 32 (λ v. member s v && leb m v))

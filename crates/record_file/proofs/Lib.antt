@@ -3,3 +3,7 @@ pub mod FirstBytes
 pub mod Marking
 pub mod Beyond
 pub mod RuleOrder
+pub mod Counting
+pub mod SoundRecords
+pub mod OneMore
+pub mod FirstFaults

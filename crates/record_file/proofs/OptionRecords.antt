@@ -25,13 +25,13 @@ module _ {file : List ℕ} {k : ℕ} {d : Domains} (h : Domains-before file k d)
   is-leading j in-file letter = ⊎-elim (λ lt. lt) (λ ge. absurd (h .others j ge in-file letter)) (order j (d .count))
 
   pub given-size : (o m : ℕ) → Gives file k o m → (o < d .count) × (getD (d .sizes) o 0 ≡ m)
-  given-size o m (j, in-file, letter, option, size) =
+  given-size o m (j, in-file, (letter, option, size)) =
       let lt = is-leading j in-file letter in
       let same : j ≡ o = sym (h .options j lt) ∙ option in
       (omega arith, ap (λ x. getD (d .sizes) x 0) (sym same) ∙ sym (h .sizes j lt) ∙ size)
 
   pub size-given : (o : ℕ) → o < d .count → Gives file k o (getD (d .sizes) o 0)
-  size-given o lt = (o, omega (arith, h .leading), h .letters o lt, h .options o lt, h .sizes o lt)
+  size-given o lt = (o, omega (arith, h .leading), (h .letters o lt, h .options o lt, h .sizes o lt))
 
   pub decides-unknown-option : (o : ℕ) (r : Bool) → r ≡ ltb o (d .count) → Decides (not r) (Known-option file k o → ⊥)
   decides-unknown-option o r e =

@@ -61,10 +61,14 @@ unfoldable pub count-before : List ℕ → ℕ → ℕ → ℕ
 count-before file letter zero = 0
 count-before file letter (suc k) = cond (eqb (byte file k 0) letter) 1 0 + count-before file letter k
 
+-- some record before record k is so
+abbrev pub Some-before : ℕ → (ℕ → Type 0) → Type 0
+Some-before k So = (j : ℕ) × (j < k) × So j
+
 -- some O record before record k gives this option, with m values
 abbrev pub Gives : List ℕ → ℕ → ℕ → ℕ → Type 0
 Gives file k option m =
-    (j : ℕ) × (j < k) × Has-letter file j O-letter × (byte file j 1 ≡ option) × (byte file j 2 ≡ m)
+    Some-before k (λ j. Has-letter file j O-letter × (byte file j 1 ≡ option) × (byte file j 2 ≡ m))
 
 -- an option that some O record before record k gives
 abbrev pub Known-option : List ℕ → ℕ → ℕ → Type 0

@@ -9,7 +9,7 @@ use lib.Dec.{T, eqb, leb}
 use lib.ListN.{length}
 use Rattle.record_file.specs.Layout.{record-length, longest-file, most-options, most-values, most-inequalities}
 use Rattle.record_file.specs.Layout.{byte, word, Has-letter, O-letter, R-letter, L-letter, P-letter, count-before}
-use Rattle.record_file.specs.Layout.{Gives, Known-option, Known-value}
+use Rattle.record_file.specs.Layout.{Some-before, Gives, Known-option, Known-value}
 use Rattle.value_set.specs.Members.{has}
 
 -- 1: the file is too long
@@ -33,7 +33,7 @@ pub record Unknown-letter (file : List ℕ) (k : ℕ) : Type 0 where
 
 -- some record before record k is no O record
 abbrev pub Follows-another-kind : List ℕ → ℕ → Type 0
-Follows-another-kind file k = (j : ℕ) × (j < k) × (Has-letter file j O-letter → ⊥)
+Follows-another-kind file k = Some-before k (λ j. Has-letter file j O-letter → ⊥)
 
 -- 5: an O record follows another kind, or its number is not the count of O records before it, or there are twelve already
 abbrev pub Misplaced-option : List ℕ → ℕ → Type 0
@@ -88,20 +88,23 @@ unused letter b =
 abbrev pub Nonzero-at : List ℕ → ℕ → ℕ → Type 0
 Nonzero-at file k b = (b < record-length) × T (unused (byte file k 0) b) × (byte file k b ≡ 0 → ⊥)
 
--- some R record before record k is for this value of an option and this other option
-abbrev pub Row-before : List ℕ → ℕ → ℕ → ℕ → ℕ → Type 0
-Row-before file k option value other =
-    (j : ℕ)
-    × (j < k)
-    × Has-letter file j R-letter
-    × (byte file j 1 ≡ option)
-    × (byte file j 2 ≡ value)
-    × (byte file j 3 ≡ other)
+-- record k is an R record for this value of an option and this other option
+abbrev pub Row-at : List ℕ → ℕ → ℕ → ℕ → ℕ → Type 0
+Row-at file k option value other =
+    Has-letter file k R-letter × (byte file k 1 ≡ option) × (byte file k 2 ≡ value) × (byte file k 3 ≡ other)
 
--- some P record before record k is for this value of an option
+-- record k is a P record for this value of an option
+abbrev pub Price-at : List ℕ → ℕ → ℕ → ℕ → Type 0
+Price-at file k option value =
+    Has-letter file k P-letter × (byte file k 1 ≡ option) × (byte file k 2 ≡ value)
+
+-- some record before record k is such an R record
+abbrev pub Row-before : List ℕ → ℕ → ℕ → ℕ → ℕ → Type 0
+Row-before file k option value other = Some-before k (λ j. Row-at file j option value other)
+
+-- some record before record k is such a P record
 abbrev pub Price-before : List ℕ → ℕ → ℕ → ℕ → Type 0
-Price-before file k option value =
-    (j : ℕ) × (j < k) × Has-letter file j P-letter × (byte file j 1 ≡ option) × (byte file j 2 ≡ value)
+Price-before file k option value = Some-before k (λ j. Price-at file j option value)
 
 -- 10: an R record or a P record comes a second time
 abbrev pub Repeated : List ℕ → ℕ → Type 0

@@ -1,8 +1,8 @@
 // The options that the records so far give, and how many values each has.
 ghost use mathlib.Core.Path.{_≡_};
-ghost use Prim.Native.Nat.{_+_, _≤_, _<_};
+ghost use Prim.Native.Nat.{ℕ, _+_, _≤_, _<_};
 ghost use lib.Dec.{ltb};
-ghost use lib.ListN.{getD, set};
+ghost use lib.ListN.{getD};
 ghost use Rattle.std.specs.Options.{Cases};
 
 pub const MOST_OPTIONS: usize = 12;
@@ -55,7 +55,9 @@ impl Domains {
     pub(crate) fn push(&mut self, size: u8)
         requires { ⌜ now self .count < 12 ⌝ }
         ensures count { λ _. ⌜ now (self .exit) .count ≡ now (self .entry) .count + 1 ⌝ }
-        ensures sizes { λ _. ⌜ now (self .exit) .sizes ≡ set (now (self .entry) .sizes) (now (self .entry) .count) size ⌝ }
+        ensures last { λ _. ⌜ getD (now (self .exit) .sizes) (now (self .entry) .count) 0 ≡ size ⌝ }
+        ensures same { λ _. ⌜ ((j : ℕ) → j < now (self .entry) .count
+            → getD (now (self .exit) .sizes) j 0 ≡ getD (now (self .entry) .sizes) j 0) ⌝ }
     {
         self.sizes[self.count] = size;
         self.count += 1;

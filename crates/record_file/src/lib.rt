@@ -1,5 +1,5 @@
 // The record file of a rule book: reads its records, and checks it against the rules of the format.
-mod check;
+mod checking;
 mod domains;
 mod fault;
 mod layout;
@@ -8,6 +8,7 @@ mod record;
 mod rules;
 mod tally;
 
+pub use checking::check;
 pub use fault::Fault;
 pub use fault::Layer;
 pub use fault::Rule;

@@ -17,7 +17,9 @@ impl Marks {
     pub(crate) fn new() -> Marks
         ensures { λ r. ⌜ ((o v : ℕ) → marked r o v ≡ false) ⌝ }
     {
-        Marks { sets: [ValueSet::EMPTY; MOST_OPTIONS] }
+        Marks {
+            sets: [ValueSet::EMPTY; MOST_OPTIONS],
+        }
     }
 
     pub(crate) fn contains(&self, option: u8, value: u8) -> bool
@@ -50,7 +52,9 @@ impl RowMarks {
     pub(crate) fn new() -> RowMarks
         ensures { λ r. ⌜ ((o v p : ℕ) → row-marked r o v p ≡ false) ⌝ }
     {
-        RowMarks { toward: [Marks::new(); MOST_OPTIONS] }
+        RowMarks {
+            toward: [Marks::new(); MOST_OPTIONS],
+        }
     }
 
     pub(crate) fn contains(&self, option: u8, value: u8, other: u8) -> bool

@@ -167,7 +167,11 @@ pub(crate) fn mask_beyond_values(file: &[u8], number: usize, domains: &Domains) 
     }
     let size = domains.size(byte_at(file, number, 3))?;
     let mask = ValueSet::from_mask(word_at(file, number, 4));
-    if mask.is_within(ValueSet::first(size)) { None } else { Some(4) }
+    if mask.is_within(ValueSet::first(size)) {
+        None
+    } else {
+        Some(4)
+    }
 }
 
 pub(crate) fn duplicate(file: &[u8], number: usize, tally: &Tally) -> Option<u8>

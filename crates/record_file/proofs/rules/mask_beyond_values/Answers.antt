@@ -16,8 +16,7 @@ returns-else-is-within c =
     let given = size-given (c .pre .before) (c .byte-at .result) (told .0) in
     let outside = not-from-decides _ (c .is-within .ensures) (c .if-is-within .left) in
     let beyond = value-beyond size (c .from-mask-mask .result) _ (omega (arith, c .from-mask-mask .ensures, c .word-at .ok)) (c .first .ensures) outside in
-    let mask = c .from-mask-mask .ensures ∙ c .word-at .ensures in
-    (
+    let mask = c .from-mask-mask .ensures ∙ c .word-at .ensures in (
       record {
         there = c .pre .there;
         broken = (

@@ -7,8 +7,7 @@ use Rattle.record_file.proofs.rules.names_unknown_other.Needs as need
 
 pub returns-else-not-contains : need.returns-else-not-contains
 returns-else-not-contains c =
-    let known = true-ltb _ _ (c .if-not-contains .ensures tt) in
-    (
+    let known = true-ltb _ _ (c .if-not-contains .ensures tt) in (
       λ le. (search needs, inr (omega (arith, leb-true _ _ le))),
       λ unknown.
           ⊎-elim (λ none. absurd (none (_, size-given (c .pre .before) _ (omega arith)))) (λ le. le-leb _ _ (omega arith)) (unknown .1),

@@ -2,9 +2,11 @@
 ghost use mathlib.Core.Path.{_≡_};
 ghost use Prim.Native.Nat.{_<_};
 ghost use Rattle.std.specs.Options.{Cases};
+ghost use Rattle.std.specs.Results.{Cases as ByOk};
+ghost use Rattle.std.specs.Vec.{refused};
 ghost use Rattle.record_file.specs.Layout.{whole-records};
 ghost use Rattle.record_file.specs.Faults.{Breaks, Finds, layer-of};
-ghost use Rattle.record_file.specs.Faults.{Sound-file, Sound-record, First-in-record, First-fault};
+ghost use Rattle.record_file.specs.Faults.{Sound-file, Sound-record, Sound, First-in-record, First-fault};
 ghost use Rattle.record_file.specs.declared.fault.Layer.the-variants.{File};
 ghost use Rattle.record_file.specs.Tallies.{Tally-before};
 use crate::fault::Fault;
@@ -81,4 +83,22 @@ fn record_fault(file: &[u8], number: usize, tally: &Tally) -> Option<Fault>
         }
     }
     None
+}
+
+// Whether a file keeps all rules; otherwise its first fault.
+pub fn check(file: &[u8]) -> Result<(), Fault>
+    ensures verdict { λ r. ⌜ ByOk r (λ _. Sound (now (file .entry))) (First-fault (now (file .entry))) ⌝ }
+    ensures only { λ r. ⌜ refused r (λ f. (g : Fault) → First-fault (now (file .entry)) g → g ≡ f) ⌝ }
+{
+    if let Some(fault) = file_fault(file) {
+        return Err(fault);
+    }
+    let mut tally = Tally::new();
+    for number in 0..file.len() / RECORD_LENGTH {
+        if let Some(fault) = record_fault(file, number, &tally) {
+            return Err(fault);
+        }
+        tally.add(file, number);
+    }
+    Ok(())
 }

@@ -5,7 +5,7 @@ use native.Mathlib.Omega.{arith}
 use lib.ListN.{getD}
 use Rattle.record_file.specs.Faults.{First-in-record}
 use Rattle.record_file.proofs.RuleOrder.{Sound-below, record-rules, record-rule, on-record, number-at, sound-below-more, first-in-record}
-use Rattle.record_file.proofs.check.record_fault.Needs as need
+use Rattle.record_file.proofs.checking.record_fault.Needs as need
 
 pub loop-rule-holds : need.loop-rule-holds
 loop-rule-holds c r b nf lt = let from = record-rule r nf in omega arith

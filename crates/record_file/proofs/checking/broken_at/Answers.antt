@@ -1,5 +1,5 @@
 use Rattle.record_file.proofs.RuleOrder.{finds-for}
-use Rattle.record_file.proofs.check.broken_at.Needs as need
+use Rattle.record_file.proofs.checking.broken_at.Needs as need
 
 pub returns-in-UnknownLetter : need.returns-in-UnknownLetter
 returns-in-UnknownLetter c nf = finds-for _ _ _ (c .in-UnknownLetter .is) (c .unknown-letter .ensures)

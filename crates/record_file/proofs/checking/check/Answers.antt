@@ -1,0 +1,27 @@
+use native.Mathlib.Omega.{arith}
+use borrow.Author.Count.{below-more}
+use Rattle.record_file.specs.Faults.{Sound-record}
+use Rattle.record_file.proofs.FirstFaults.{one-first-fault, sound-by-records, first-by-records}
+use Rattle.record_file.proofs.checking.check.Needs as need
+
+pub returns-in-Some : need.returns-in-Some
+returns-in-Some c =
+    let told = c .in-Some .ensures tt in
+    record { verdict = told; only = λ g other. one-first-fault _ _ g told other }
+
+pub loop-number-holds : need.loop-number-holds
+loop-number-holds c = (c .new-tally .ensures (c .args .file .now), λ k lt. absurd (omega arith))
+
+pub record-fault-requires : need.record-fault-requires
+record-fault-requires c κs = record { there = c .loop-number-test .taken; before = c .loop-number .inv .0 }
+
+pub returns-in-Some-record-fault : need.returns-in-Some-record-fault
+returns-in-Some-record-fault c =
+    let told = first-by-records _ (c .in-rest .ensures tt) _ _ (c .loop-number .inv .1) (c .in-Some-record-fault .ensures tt) in
+    record { verdict = told; only = λ g other. one-first-fault _ _ g told other }
+
+pub loop-number-again : need.loop-number-again
+loop-number-again c = (
+  c .add .ensures,
+  below-more (Sound-record (c .args .file .now)) _ (c .loop-number .inv .1) (c .in-rest-record-fault .ensures tt),
+)
