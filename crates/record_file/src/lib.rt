@@ -1,4 +1,4 @@
-// The record file of a rule book: reads its records, and checks it against the rules of the format.
+// The record file of a rule book: reads its records one by one, and checks the file against the rules of the format.
 mod checking;
 mod domains;
 mod fault;
@@ -10,8 +10,18 @@ mod tally;
 
 pub use checking::check;
 pub use fault::Fault;
+pub use fault::FaultDebug;
+pub use fault::FaultEq;
+pub use fault::FaultPartialEq;
 pub use fault::Layer;
+pub use fault::LayerDebug;
+pub use fault::LayerEq;
+pub use fault::LayerPartialEq;
 pub use fault::Rule;
+pub use fault::RuleDebug;
+pub use fault::RuleEq;
+pub use fault::RulePartialEq;
 pub use layout::LONGEST_FILE;
 pub use layout::RECORD_LENGTH;
 pub use record::Record;
+pub use record::RecordDebug;
