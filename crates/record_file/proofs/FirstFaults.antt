@@ -18,7 +18,7 @@ use Rattle.record_file.specs.Faults.{Sound, Sound-file, Sound-record}
 use Rattle.record_file.proofs.RuleOrder.{same-rule}
 
 -- a rule is on the file or on a record
-sort-of : (l : Layer) → (l ≡ File) ⊎ ((l ≡ File → ⊥) × ((k : ℕ) → turn-of l k ≡ suc k))
+pub sort-of : (l : Layer) → (l ≡ File) ⊎ ((l ≡ File → ⊥) × ((k : ℕ) → turn-of l k ≡ suc k))
 sort-of File = inl refl
 sort-of Record = inr (λ e. let z : _≡_ {A = ℕ} 0 1 = cc in omega arith, λ k. refl)
 sort-of Book = inr (λ e. let z : _≡_ {A = ℕ} 0 1 = cc in omega arith, λ k. refl)

@@ -7,3 +7,4 @@ pub mod Counting
 pub mod SoundRecords
 pub mod OneMore
 pub mod FirstFaults
+pub mod FilesByHand

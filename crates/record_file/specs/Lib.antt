@@ -4,3 +4,4 @@ pub mod Faults
 pub mod Reading
 pub mod Tallies
 pub mod Marks
+pub mod WorkedExamples

@@ -1,6 +1,7 @@
 // The record file of a rule book: reads its records one by one, and checks the file against the rules of the format.
 mod checking;
 mod domains;
+mod examples;
 mod fault;
 mod layout;
 mod marks;
@@ -9,6 +10,7 @@ mod rules;
 mod tally;
 
 pub use checking::check;
+pub use examples::worked_examples;
 pub use fault::Fault;
 pub use fault::FaultDebug;
 pub use fault::FaultEq;
