@@ -1,9 +1,12 @@
 -- The first fault of a file: from that of its first faulty record, and that there is only one. Assumes nothing.
 use mathlib.Core.Path.{_≡_, refl, sym, ap, subst, _∙_}
 use mathlib.Core.Logic.{_⊎_, inl, inr, ⊎-elim}
+use mathlib.Core.Bool.{false}
 use mathlib.Core.List.{List}
 use Prim.Native.Nat.{ℕ, suc, _<_}
 use native.Mathlib.Omega.{arith}
+use borrow.Author.Tests.{clash}
+use Rattle.std.specs.Orderings.{Decides}
 use Rattle.std.proofs.shelf.Tests.{cases-order}
 use Rattle.record_file.specs.declared.fault.Fault.{Fault}
 use Rattle.record_file.specs.declared.fault.Layer.{Layer}
@@ -45,6 +48,10 @@ module _ (file : List ℕ) where
   in-file ReservedByte k b nf h = h .there
   in-file Duplicate k b nf h = h .0 .there
   in-file TooManyInequalities k b nf h = h .0 .there
+
+  -- a file with a first fault is not sound
+  pub refuses : (f : Fault) → First-fault file f → Decides false (Sound file)
+  refuses f h = (λ t. absurd (clash t), λ sound. absurd (sound _ _ _ (h .broken)))
 
   -- a rule names one byte of a record
   same-byte : (r : Rule) (k a b : ℕ) → Breaks file r k a → Breaks file r k b → a ≡ b

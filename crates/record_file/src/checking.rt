@@ -2,7 +2,8 @@
 ghost use mathlib.Core.Path.{_≡_};
 ghost use Prim.Native.Nat.{_<_};
 ghost use Rattle.std.specs.Options.{Cases};
-ghost use Rattle.std.specs.Results.{Cases as ByOk};
+ghost use Rattle.std.specs.Orderings.{Decides};
+ghost use Rattle.std.specs.Results.{isOk};
 ghost use Rattle.std.specs.Vec.{refused};
 ghost use Rattle.record_file.specs.Layout.{whole-records};
 ghost use Rattle.record_file.specs.Faults.{Breaks, Finds, layer-of};
@@ -85,9 +86,10 @@ fn record_fault(file: &[u8], number: usize, tally: &Tally) -> Option<Fault>
     None
 }
 
-// Whether a file keeps all rules; otherwise its first fault.
+// Accepts a file exactly if it breaks no rule, and otherwise names its first fault, of which there is only one.
 pub fn check(file: &[u8]) -> Result<(), Fault>
-    ensures verdict { λ r. ⌜ ByOk r (λ _. Sound (now (file .entry))) (First-fault (now (file .entry))) ⌝ }
+    ensures accepts { λ r. ⌜ Decides (isOk r) (Sound (now (file .entry))) ⌝ }
+    ensures names { λ r. ⌜ refused r (First-fault (now (file .entry))) ⌝ }
     ensures only { λ r. ⌜ refused r (λ f. (g : Fault) → First-fault (now (file .entry)) g → g ≡ f) ⌝ }
 {
     if let Some(fault) = file_fault(file) {

@@ -1,4 +1,10 @@
 // A record as its reader is given it: one of four kinds, with the bytes of its own as parts of the file.
+ghost use mathlib.Core.Path.{_≡_};
+ghost use mathlib.Core.Bool.{true};
+ghost use Prim.Native.Nat.{_<_};
+ghost use Rattle.std.specs.Options.{isSome};
+ghost use Rattle.record_file.specs.Faults.{Sound};
+ghost use Rattle.record_file.specs.Layout.{whole-records};
 ghost use Rattle.record_file.specs.Reading.{Reads};
 use crate::layout::RECORD_LENGTH;
 use crate::layout::byte_at;
@@ -38,7 +44,8 @@ pub enum Record<'a> {
 impl<'a> Record<'a> {
     // Record `number` of a file: none where the file has no such record, or its letter is unknown.
     pub fn read(file: &'a [u8], number: usize) -> Option<Record<'a>>
-        ensures { λ r. ⌜ Reads (now (file .entry)) number r ⌝ }
+        ensures reads { λ r. ⌜ Reads (now (file .entry)) number r ⌝ }
+        ensures accepted { λ r. ⌜ (Sound (now (file .entry)) → number < whole-records (now (file .entry)) → isSome r ≡ true) ⌝ }
     {
         if number >= file.len() / RECORD_LENGTH {
             return None;

@@ -12,12 +12,12 @@ use Rattle.record_file.proofs.tally.Tally.add.Needs as need
 
 pub push-requires : need.push-requires
 push-requires c κs =
-    let shown = subst (Shows (c .args .file .now) (c .args .number)) (c .in-Domain .is) (c .in-Some .ensures tt .1) in
+    let shown = subst (Shows (c .args .file .now) (c .args .number)) (c .in-Domain .is) (c .in-Some .ensures tt .reads .1) in
     option-room (c .pre .there) (c .pre .sound) (c .pre .before .domains) (shown .0)
 
 pub insert-requires : need.insert-requires
 insert-requires c κs =
-    let shown = subst (Shows (c .args .file .now) (c .args .number)) (c .in-Row .is) (c .in-Some .ensures tt .1) in
+    let shown = subst (Shows (c .args .file .now) (c .args .number)) (c .in-Row .is) (c .in-Some .ensures tt .reads .1) in
     let few = c .args .self .now .domains .few in
     let option = option-known (c .pre .there) (c .pre .sound) (c .pre .before .domains) (inl (shown .0)) in
     let value = value-known (c .pre .there) (c .pre .sound) (c .pre .before .domains) (inl (shown .0)) in
@@ -29,7 +29,7 @@ add-self c = omega (arith, c .pre .before .inequalities, count-before-le (c .arg
 
 pub insert-requires-in-Price : need.insert-requires-in-Price
 insert-requires-in-Price c κs =
-    let shown = subst (Shows (c .args .file .now) (c .args .number)) (c .in-Price .is) (c .in-Some .ensures tt .1) in
+    let shown = subst (Shows (c .args .file .now) (c .args .number)) (c .in-Price .is) (c .in-Some .ensures tt .reads .1) in
     let few = c .args .self .now .domains .few in
     let option = option-known (c .pre .there) (c .pre .sound) (c .pre .before .domains) (inr (inr (shown .0))) in
     let value = value-known (c .pre .there) (c .pre .sound) (c .pre .before .domains) (inr (shown .0)) in
@@ -37,7 +37,7 @@ insert-requires-in-Price c κs =
 
 pub returns-in-Domain : need.returns-in-Domain
 returns-in-Domain c =
-    let shown = subst (Shows (c .args .file .now) (c .args .number)) (c .in-Domain .is) (c .in-Some .ensures tt .1) in
+    let shown = subst (Shows (c .args .file .now) (c .args .number)) (c .in-Domain .is) (c .in-Some .ensures tt .reads .1) in
     let before = c .pre .before in
     let pushed = c .push .ensures in
     record {
@@ -50,7 +50,7 @@ returns-in-Domain c =
 
 pub returns-in-Row : need.returns-in-Row
 returns-in-Row c =
-    let shown = subst (Shows (c .args .file .now) (c .args .number)) (c .in-Row .is) (c .in-Some .ensures tt .1) in
+    let shown = subst (Shows (c .args .file .now) (c .args .number)) (c .in-Row .is) (c .in-Some .ensures tt .reads .1) in
     let before = c .pre .before in
     record {
       domains = domains-kept _ _ _ (before .domains) (λ e. omega (arith, shown .0));
@@ -64,7 +64,7 @@ returns-in-Row c =
 
 pub returns-in-Inequality : need.returns-in-Inequality
 returns-in-Inequality c =
-    let shown = subst (Shows (c .args .file .now) (c .args .number)) (c .in-Inequality .is) (c .in-Some .ensures tt .1) in
+    let shown = subst (Shows (c .args .file .now) (c .args .number)) (c .in-Inequality .is) (c .in-Some .ensures tt .reads .1) in
     let before = c .pre .before in
     record {
       domains = domains-kept _ _ _ (before .domains) (λ e. omega (arith, shown .0));
@@ -75,7 +75,7 @@ returns-in-Inequality c =
 
 pub returns-in-Price : need.returns-in-Price
 returns-in-Price c =
-    let shown = subst (Shows (c .args .file .now) (c .args .number)) (c .in-Price .is) (c .in-Some .ensures tt .1) in
+    let shown = subst (Shows (c .args .file .now) (c .args .number)) (c .in-Price .is) (c .in-Some .ensures tt .reads .1) in
     let before = c .pre .before in
     record {
       domains = domains-kept _ _ _ (before .domains) (λ e. omega (arith, shown .0));
@@ -89,4 +89,4 @@ returns-in-Price c =
 
 pub returns-in-rest : need.returns-in-rest
 returns-in-rest c =
-    ⊎-elim (λ past. absurd (omega (arith, c .pre .there))) (λ unknown. absurd (letter-known (c .pre .there) (c .pre .sound) unknown)) (c .in-rest .ensures tt)
+    ⊎-elim (λ past. absurd (omega (arith, c .pre .there))) (λ unknown. absurd (letter-known (c .pre .there) (c .pre .sound) unknown)) (c .in-rest .ensures tt .reads)
