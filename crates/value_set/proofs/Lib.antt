@@ -3,3 +3,4 @@ pub mod Counts
 pub mod Leasts
 pub mod Sizes
 pub mod Passed
+pub mod Blocks
