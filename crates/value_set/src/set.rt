@@ -32,16 +32,15 @@ impl ValueSet {
         self.mask
     }
 
-    /// The values below `count`, all of them where it is no smaller than their number.
+    /// The values below `count`: all of them from `VALUES` on.
     pub fn first(count: u8) -> ValueSet
         ensures { λ r. ⌜ ((v : ℕ) → member r v ≡ (ltb v count && ltb v 32)) ⌝ }
     {
-        let mask = if u32::from(count) < VALUES {
-            (1 << count) - 1
+        if u32::from(count) < VALUES {
+            ValueSet::from_mask((1 << count) - 1)
         } else {
-            u32::MAX
-        };
-        ValueSet { mask }
+            ValueSet::from_mask(u32::MAX)
+        }
     }
 
     pub fn contains(self, value: u8) -> bool

@@ -11,7 +11,7 @@ pub returns-then-from-lt-VALUES : need.returns-then-from-lt-VALUES
 returns-then-from-lt-VALUES c v =
     let n = c .args .count in
     let below : n < 32 = omega arith in
-    ap (λ m. has (m - 1) v) (one-shl n 32 below) ∙ has-first n v ∙ grind (arith, tells)
+    ap (λ m. has m v) (c .from-mask .ensures) ∙ ap (λ m. has (m - 1) v) (one-shl n 32 below) ∙ has-first n v ∙ grind (arith, tells)
 
 pub returns-else-from-lt-VALUES : need.returns-else-from-lt-VALUES
-returns-else-from-lt-VALUES c v = has-first 32 v ∙ grind (arith, tells)
+returns-else-from-lt-VALUES c v = ap (λ m. has m v) (c .from-mask-else-from-lt-VALUES .ensures) ∙ has-first 32 v ∙ grind (arith, tells)
