@@ -10,7 +10,8 @@ use lib.Bits.{bitAnd, bitOr, and-shr, and-mod, or-shr, or-mod, or-shifted-r, or-
 use Rattle.std.proofs.shelf.Bits.{pow-pos, shr-shr}
 use Rattle.std.proofs.shelf.Tests.{cases-bool, cases-eq, cases-lt, eq-eqb, ne-eqb, lt-ltb, le-ltb, and-from, and-left, and-right, not-from-false, not-from-true, true≢false, false≢true}
 use Rattle.std.proofs.shelf.Ways.{tells}
-use Rattle.value_set.specs.Members.{has, mask-below}
+use Rattle.value_set.specs.declared.set.ValueSet.{ValueSet}
+use Rattle.value_set.specs.Members.{has, member, mask-below}
 
 -- ---- bit by bit, lowest first
 
@@ -127,6 +128,9 @@ pub ext : (a b : ℕ) → ((v : ℕ) → has a v ≡ has b v) → a ≡ b
 ext a b same =
     let n = a + b in
     same-mask n a b (omega (arith, lt-pow (a + b))) (omega (arith, lt-pow (a + b))) (λ v _. same v)
+
+pub same-set : (s t : ValueSet) → ((v : ℕ) → member s v ≡ member t v) → s ≡ t
+same-set s t same = ap (λ m. record { mask = m }) (ext (s .mask) (t .mask) same)
 
 -- a set without values has the mask 0
 pub none-zero : (m : ℕ) → ((v : ℕ) → has m v ≡ false) → m ≡ 0

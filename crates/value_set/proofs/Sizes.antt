@@ -6,9 +6,10 @@ use native.Mathlib.Omega.{arith}
 use lib.Count.{ones}
 use lib.Dec.{eqb}
 use lib.ListN.{length}
+use Rattle.std.proofs.shelf.Tests.{ne-eqb, true≢false}
 use Rattle.value_set.specs.declared.set.ValueSet.{ValueSet}
 use Rattle.value_set.specs.Members.{has, member, size, list-below, NoMember, Within, Without}
-use Rattle.value_set.proofs.Counts.{count-le, count-same, count-mono, count-or, count-none, none-count, count-without, length-list, ones-count}
+use Rattle.value_set.proofs.Counts.{count-le, count-same, count-mono, count-or, count-none, none-count, count-single, count-without, length-list, ones-count}
 
 pub size-le : (s : ValueSet) → size s ≤ 32
 unfolding size
@@ -43,6 +44,14 @@ pub size-without : (s t : ValueSet) (k : ℕ) → k < 32 → member s k ≡ true
 unfolding size
 size-without s t k lt there without =
     ap (λ n. n + 1) (count-same 32 (member t) (λ v. member s v && not (eqb v k)) (λ v _. without v)) ∙ count-without 32 (member s) k lt there
+
+-- the set t is the set s with the value k added
+pub size-with : (s t : ValueSet) (k : ℕ) → k < 32 → member s k ≡ false → ((v : ℕ) → member t v ≡ (member s v || eqb v k)) → size t ≡ size s + 1
+unfolding size
+size-with s t k lt missing with-k =
+    count-same 32 (member t) (λ v. member s v || eqb v k) (λ v _. with-k v)
+    ∙ count-or 32 (member s) (λ v. eqb v k) (λ v _ there. ne-eqb v k (λ e. true≢false (sym there ∙ ap (member s) e ∙ missing)))
+    ∙ ap (λ n. size s + n) (count-single 32 k lt)
 
 -- the values in ascending order
 pub size-list : (s : ValueSet) → length (list-below 32 (member s)) ≡ size s
