@@ -1,8 +1,8 @@
 -- The bits of a mask as membership: what the operations on masks do to `has`. Assumes nothing.
-use mathlib.Core.Path.{_≡_, refl, sym, ap, ap₂, subst, _∙_}
+use mathlib.Core.Path.{_≡_, refl, sym, ap, ap₂, _∙_}
 use mathlib.Core.Logic.{⊎-elim}
 use mathlib.Core.Bool.{Bool, true, false, not, _&&_, _||_, cond}
-use Prim.Native.Nat.{ℕ, zero, suc, _+_, _-_, _*_, _/_, _%_, _^_, _≤_, _<_}
+use Prim.Native.Nat.{ℕ, zero, suc, _+_, _-_, _/_, _%_, _^_, _≤_, _<_}
 use native.Mathlib.Nat.{pow-suc}
 use native.Mathlib.Omega.{arith}
 use lib.Dec.{eqb, ltb, leb·suc-suc}
@@ -115,8 +115,8 @@ same-mask zero a b ha hb same = omega arith
 same-mask (suc n) a b ha hb same =
     let low : eqb (a % 2) 1 ≡ eqb (b % 2) 1 = sym (has-zero a) ∙ same 0 (omega arith) ∙ has-zero b in
     let odd : a % 2 ≡ b % 2 = grind (arith, tells) in
-    let half : a / 2 ≡ b / 2 =
-    same-mask n (a / 2) (b / 2) (omega (arith, pow-suc 2 n)) (omega (arith, pow-suc 2 n)) (λ v lt. sym (has-suc a v) ∙ same (suc v) (omega arith) ∙ has-suc b v) in
+    let rest : (v : ℕ) → v < n → has (a / 2) v ≡ has (b / 2) v = λ v lt. sym (has-suc a v) ∙ same (suc v) (omega arith) ∙ has-suc b v in
+    let half = same-mask n (a / 2) (b / 2) (omega (arith, pow-suc 2 n)) (omega (arith, pow-suc 2 n)) rest in
     omega arith
 
 -- a number is below the power of two of it
@@ -124,10 +124,9 @@ lt-pow : (n : ℕ) → n < 2 ^ n
 lt-pow zero = omega arith
 lt-pow (suc n) = omega (arith, pow-suc 2 n, lt-pow n)
 
+-- masks of any length
 pub ext : (a b : ℕ) → ((v : ℕ) → has a v ≡ has b v) → a ≡ b
-ext a b same =
-    let n = a + b in
-    same-mask n a b (omega (arith, lt-pow (a + b))) (omega (arith, lt-pow (a + b))) (λ v _. same v)
+ext a b same = same-mask (a + b) a b (omega (arith, lt-pow (a + b))) (omega (arith, lt-pow (a + b))) (λ v _. same v)
 
 pub same-set : (s t : ValueSet) → ((v : ℕ) → member s v ≡ member t v) → s ≡ t
 same-set s t same = ap (λ m. record { mask = m }) (ext (s .mask) (t .mask) same)
@@ -147,13 +146,15 @@ meets-single n m b k fits single = ⊎-elim there missing (cases-bool (has m k))
         let both : has (bitAnd m b) k ≡ true = has-and m b k ∙ and-from _ _ e alone in
         not-from-false _ (ne-eqb (bitAnd m b) 0 (λ z. false≢true (sym (ap (λ a. has a k) z ∙ has-none k) ∙ both))) ∙ sym e
 
-    missing : has m k ≡ false → not (eqb (bitAnd m b) 0) ≡ has m k
-    missing e =
-        let none : (v : ℕ) → has (bitAnd m b) v ≡ false = λ v. has-and m b v ∙ ap (λ t. has m v && t) (single v) ∙ ⊎-elim
+    none : has m k ≡ false → (v : ℕ) → has (bitAnd m b) v ≡ false
+    none e v =
+        has-and m b v ∙ ap (λ t. has m v && t) (single v) ∙ ⊎-elim
         (λ same. and-left _ _ (ap (has m) same ∙ e))
         (λ other. and-right _ _ (and-left _ _ (ne-eqb v k other)))
-        (cases-eq v k) in
-        not-from-true _ (eq-eqb (bitAnd m b) 0 (none-zero (bitAnd m b) none)) ∙ sym e
+        (cases-eq v k)
+
+    missing : has m k ≡ false → not (eqb (bitAnd m b) 0) ≡ has m k
+    missing e = not-from-true _ (eq-eqb (bitAnd m b) 0 (none-zero (bitAnd m b) (none e))) ∙ sym e
 
 -- ---- the mask of a test
 

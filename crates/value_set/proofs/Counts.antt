@@ -1,18 +1,14 @@
 -- How many numbers below a bound pass a test. Assumes nothing.
-use mathlib.Core.Path.{_≡_, refl, sym, ap, ap₂, subst, _∙_}
+use mathlib.Core.Path.{_≡_, refl, sym, ap, ap₂, _∙_}
 use mathlib.Core.Bool.{Bool, true, false, not, _&&_, _||_, cond}
-use mathlib.Core.List.{List, [], _∷_, _++_, append-nil}
 use mathlib.Core.Logic.{⊎-elim}
 use Prim.Native.Nat.{ℕ, zero, suc, _+_, _/_, _%_, _^_, _≤_, _<_}
 use native.Mathlib.Nat.{le-of-eq, pow-suc}
 use native.Mathlib.Omega.{arith}
 use lib.Count.{ones, ones-step}
 use lib.Dec.{eqb}
-use lib.ListN.{length, getD, length-append}
-use lib.Seq.{getD-at}
-use Rattle.std.proofs.shelf.Lists.{getD-append-left}
 use Rattle.std.proofs.shelf.Tests.{cases-bool, cases-eq, cases-lt, cases-order, eq-eqb, eqb-true, ne-eqb, true≢false}
-use Rattle.value_set.specs.Members.{has, count-below, list-below}
+use Rattle.value_set.specs.Members.{has, count-below}
 use Rattle.value_set.proofs.Bits.{has-zero, has-suc}
 
 -- ---- one number
@@ -31,6 +27,10 @@ one-or true true h = absurd (true≢false (h refl))
 one-or true false h = refl
 one-or false true h = refl
 one-or false false h = refl
+
+pub and-yes : (a b : Bool) → b ≡ true → (a && b) ≡ a
+and-yes true b h = h
+and-yes false b h = refl
 
 put-back : (a b : Bool) → (b ≡ true → a ≡ true) → a ≡ ((a && not b) || b)
 put-back true true h = refl
@@ -146,58 +146,6 @@ count-unique p v w pv pw same =
     (λ lt. absurd (omega (arith, count-in v p pv, count-up (suc v) w p lt)))
     (λ lt. absurd (omega (arith, count-in w p pw, count-up (suc w) v p lt))))
     (cases-order v w)
-
--- ---- the list of those that pass
-
-list-in : (n : ℕ) (p : ℕ → Bool) → p n ≡ true → list-below (suc n) p ≡ list-below n p ++ n ∷ []
-unfolding list-below
-list-in n p there = ap (λ b. list-below n p ++ cond b (n ∷ []) []) there
-
-list-out : (n : ℕ) (p : ℕ → Bool) → p n ≡ false → list-below (suc n) p ≡ list-below n p
-unfolding list-below
-list-out n p missing = ap (λ b. list-below n p ++ cond b (n ∷ []) []) missing ∙ append-nil (list-below n p)
-
--- it is as long as their count
-pub length-list : (n : ℕ) (p : ℕ → Bool) → length (list-below n p) ≡ count-below n p
-unfolding count-below list-below
-length-list zero p = refl
-length-list (suc n) p = length-append (list-below n p) _ ∙ ap₂ (λ a b. a + b) (length-list n p) (one (p n))
-  where
-    one : (b : Bool) → length (cond b (n ∷ []) []) ≡ cond b 1 0
-    one true = refl
-    one false = refl
-
--- the number v at place i passes, and i numbers below it do: the list is ascending, and has each number once
-pub record Placed (n : ℕ) (p : ℕ → Bool) (i v : ℕ) : Type 0 where
-  pub below : v < n
-  pub there : p v ≡ true
-  pub before : count-below v p ≡ i
-
-placed-more : (n : ℕ) (p : ℕ → Bool) (i v : ℕ) → Placed n p i v → Placed (suc n) p i v
-placed-more n p i v h = record { below = omega (arith, h .below); there = h .there; before = h .before }
-
-pub list-places : (n : ℕ) (p : ℕ → Bool) (i : ℕ) → i < count-below n p → Placed n p i (getD (list-below n p) i 0)
-unfolding count-below
-list-places zero p i lt = absurd (omega arith)
-list-places (suc n) p i lt = ⊎-elim
-    (λ there. ⊎-elim
-    (λ early.
-    let within : i < length (list-below n p) = omega (arith, length-list n p) in
-    subst (Placed (suc n) p i) (sym (ap (λ l. getD l i 0) (list-in n p there) ∙ getD-append-left (list-below n p) (n ∷ []) 0 i within)) (placed-more n p i _ (list-places n p i early)))
-    (λ late.
-    let last : count-below n p ≡ i = omega (arith, count-in n p there) in
-    subst (Placed (suc n) p i) (sym (ap (λ l. getD l i 0) (list-in n p there) ∙ getD-at (list-below n p) n [] 0 i (length-list n p ∙ last)))
-    (record { below = omega arith; there = there; before = last }))
-    (cases-lt i (count-below n p)))
-    (λ missing. subst (Placed (suc n) p i) (sym (ap (λ l. getD l i 0) (list-out n p missing))) (placed-more n p i _ (list-places n p i (omega (arith, count-out n p missing)))))
-    (cases-bool (p n))
-
--- each number that passes is in the list
-pub place-of : (n : ℕ) (p : ℕ → Bool) (v : ℕ) → v < n → p v ≡ true → getD (list-below n p) (count-below v p) 0 ≡ v
-place-of n p v lt there =
-    let within : count-below v p < count-below n p = omega (arith, count-in v p there, count-up (suc v) n p lt) in
-    let found = list-places n p (count-below v p) within in
-    count-unique p _ v (found .there) there (found .before)
 
 -- ---- the bits of a mask that are 1
 

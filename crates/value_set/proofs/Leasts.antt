@@ -19,6 +19,7 @@ least-unique p v w lv lw =
     (⊎-elim (λ lt. absurd (true≢false (sym (lv .there) ∙ lw .least v lt))) (λ lt. absurd (true≢false (sym (lw .there) ∙ lv .least w lt))))
     (cases-order v w)
 
+-- tests that agree
 pub least-same : (p q : ℕ → Bool) (v : ℕ) → ((k : ℕ) → p k ≡ q k) → Least p v → Least q v
 least-same p q v same l = record { there = sym (same v) ∙ l .there; least = λ k lt. sym (same k) ∙ l .least k lt }
 
@@ -42,7 +43,7 @@ least-exists p (suc v) there =
     (λ none. (suc (above .0), omega arith, least-suc p (above .0) none (above .2)))
     (cases-bool (p 0))
 
--- the place of a mask's lowest bit that is 1
+-- ---- the place of the lowest bit of a mask that is 1
 
 lowest : (m t d : ℕ) → m % 2 ≡ d → (d ≡ 0 → Least (has (m / 2)) t) → Least (has m) (under d t)
 lowest m t zero e rest =

@@ -1,6 +1,7 @@
 pub mod Bits
 pub mod Counts
 pub mod Leasts
+pub mod Lists
 pub mod Sizes
-pub mod Passed
+pub mod Steps
 pub mod Blocks

@@ -2,14 +2,14 @@
 use mathlib.Core.Path.{_≡_, sym, ap, _∙_}
 use mathlib.Core.Bool.{true, false, not, _&&_, _||_}
 use Prim.Native.Nat.{ℕ, _+_, _^_, _≤_, _<_}
-use native.Mathlib.Omega.{arith}
 use lib.Count.{ones}
 use lib.Dec.{eqb}
 use lib.ListN.{length}
 use Rattle.std.proofs.shelf.Tests.{ne-eqb, true≢false}
 use Rattle.value_set.specs.declared.set.ValueSet.{ValueSet}
-use Rattle.value_set.specs.Members.{has, member, size, list-below, NoMember, Within, Without}
-use Rattle.value_set.proofs.Counts.{count-le, count-same, count-mono, count-or, count-none, none-count, count-single, count-without, length-list, ones-count}
+use Rattle.value_set.specs.Members.{member, size, list-below, NoMember, Within, Without}
+use Rattle.value_set.proofs.Counts.{count-le, count-same, count-mono, count-or, count-none, none-count, count-single, count-without, ones-count}
+use Rattle.value_set.proofs.Lists.{length-list}
 
 pub size-le : (s : ValueSet) → size s ≤ 32
 unfolding size

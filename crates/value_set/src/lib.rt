@@ -16,3 +16,6 @@ pub use set::ValueSetPartialEq;
 pub use values::Values;
 pub use values::ValuesDebug;
 pub use values::ValuesIterator;
+
+#[cfg(test)]
+mod tests;

@@ -1,7 +1,7 @@
 use mathlib.Core.Path.{_≡_, ap}
 use native.Mathlib.Omega.{arith}
 use Rattle.value_set.specs.Members.{size}
-use Rattle.value_set.proofs.Passed.{passed-none, passed-nth, passed-next, passed-all}
+use Rattle.value_set.proofs.Steps.{passed-none, passed-nth, passed-next, passed-all}
 use Rattle.value_set.proofs.set.ValueSet.nth.Needs as need
 
 pub loop-value-holds : need.loop-value-holds

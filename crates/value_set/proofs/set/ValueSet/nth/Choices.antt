@@ -1,5 +1,5 @@
 use Prim.Native.Nat.{_≤_}
-use Rattle.value_set.proofs.Passed.{Passed}
+use Rattle.value_set.proofs.Steps.{Passed}
 use Rattle.value_set.proofs.set.ValueSet.nth.Given as given
 
 abbrev pub Inv-loop-value : given.InvT-loop-value

@@ -1,15 +1,20 @@
--- A walk through the values of a set in ascending order. Assumes nothing.
+-- The steps of the iterator through the values of a set. Assumes nothing.
 use mathlib.Core.Path.{_≡_, refl, sym, ap, _∙_}
-use mathlib.Core.Bool.{Bool, true, false, not, _&&_}
+use mathlib.Core.Bool.{false, _&&_}
 use mathlib.Core.Logic.{⊎-elim}
 use Prim.Native.Nat.{ℕ, suc, _+_, _≤_, _<_}
 use native.Mathlib.Omega.{arith}
-use lib.Dec.{eqb, leb}
+use lib.Dec.{leb}
+use lib.ListN.{length}
+use Rattle.std.proofs.shelf.Adapters.{Road}
+use Rattle.std.proofs.shelf.Roads.{road-from-shown}
 use Rattle.std.proofs.shelf.Tests.{and-parts, cases-order, le-leb, leb-true}
 use Rattle.std.proofs.shelf.Ways.{tells}
 use Rattle.value_set.specs.declared.set.ValueSet.{ValueSet}
-use Rattle.value_set.specs.Members.{member, count-below, size, Least, NoMember, Nth, Without}
-use Rattle.value_set.proofs.Counts.{count-in, count-more}
+use Rattle.value_set.specs.declared.values.Values.{Values}
+use Rattle.value_set.specs.Members.{member, count-below, list-below, size, Least, Next, NoMember, Nth, Without}
+use Rattle.value_set.proofs.Counts.{and-yes, count-in, count-more}
+use Rattle.value_set.proofs.Lists.{list-least, list-none}
 
 -- n values of the set s are passed, those below a bound, and the set rest has the others
 pub record Passed (s rest : ValueSet) (n : ℕ) : Type 0 where
@@ -17,10 +22,6 @@ pub record Passed (s rest : ValueSet) (n : ℕ) : Type 0 where
   pub low : bound ≤ 32
   pub passed : count-below bound (member s) ≡ n
   pub others : (v : ℕ) → member rest v ≡ (member s v && leb bound v)
-
-and-yes : (a b : Bool) → b ≡ true → (a && b) ≡ a
-and-yes true b h = h
-and-yes false b h = refl
 
 pub passed-none : (s : ValueSet) → Passed s s 0
 unfolding count-below
@@ -31,7 +32,7 @@ passed-none s = record {
   others = λ v. sym (and-yes (member s v) _ (le-leb 0 v (omega arith)));
 }
 
--- none is left from the bound to v: so v has the passed values below it
+-- where none is left between the bound and v, just the passed values are below v
 module _ (s rest : ValueSet) (n v : ℕ) (p : Passed s rest n) where
   gap : ((k : ℕ) → k < v → member rest k ≡ false) → p .bound ≤ v → count-below v (member s) ≡ n
   gap none le =
@@ -48,6 +49,7 @@ module _ (s rest : ValueSet) (n v : ℕ) (p : Passed s rest n) where
   passed-next t lt l without =
       let nth = passed-nth lt l in
       let here = sym (p .others v) ∙ l .there in
+      -- `here` says that v is not below the bound
       record {
         bound = suc v;
         low = lt;
@@ -64,3 +66,12 @@ module _ (s rest : ValueSet) (n v : ℕ) (p : Passed s rest n) where
 pub passed-all : (s rest : ValueSet) (n : ℕ) → Passed s rest n → NoMember rest → size s ≡ n
 unfolding size
 passed-all s rest n p none = gap s rest n 32 p (λ k _. none k) (p .low)
+
+-- the iterator gives the values in ascending order
+pub values-road : (s : Values) → Road (λ a r b. Next (a .rest) r (b .rest)) (λ v. v) s (list-below 32 (member (s .rest)))
+values-road = road-from-shown
+    (λ a r b. Next (a .rest) r (b .rest))
+    (λ v. v)
+    (λ s. list-below 32 (member (s .rest)))
+    (λ s t ended. ap length (list-none 32 (member (s .rest)) (λ v _. ended .0 v)))
+    (λ s v t step. list-least 32 (member (s .rest)) (member (t .rest)) v (step .0) (step .1) (step .2))
