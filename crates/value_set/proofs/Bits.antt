@@ -119,8 +119,8 @@ same-mask (suc n) a b ha hb same =
     let half = same-mask n (a / 2) (b / 2) (omega (arith, pow-suc 2 n)) (omega (arith, pow-suc 2 n)) rest in
     omega arith
 
--- a number is below the power of two of it
-lt-pow : (n : ℕ) → n < 2 ^ n
+-- a number has no more bits than its value
+pub lt-pow : (n : ℕ) → n < 2 ^ n
 lt-pow zero = omega arith
 lt-pow (suc n) = omega (arith, pow-suc 2 n, lt-pow n)
 
@@ -158,6 +158,10 @@ meets-single n m b k fits single = ⊎-elim there missing (cases-bool (has m k))
 
 -- ---- the mask of a test
 
+pub and-yes : (a b : Bool) → b ≡ true → (a && b) ≡ a
+and-yes true b h = h
+and-yes false b h = refl
+
 mask-at : (n v : ℕ) (b : Bool) → has (cond b (2 ^ n) 0) v ≡ (b && eqb v n)
 mask-at n v true = has-single n v
 mask-at n v false = has-none v
@@ -187,3 +191,6 @@ has-mask (suc n) p v =
     ap (λ m. has m v) (mask-top n p (mask-lt n p)) ∙ has-or (mask-below n p) (cond (p n) (2 ^ n) 0) v
     ∙ ap₂ _||_ (has-mask n p v) (mask-at n v (p n))
     ∙ ⊎-elim (λ same. let at = ap p same in grind (arith, tells)) (λ other. grind (arith, tells)) (cases-eq v n)
+
+pub has-mask-below : (n : ℕ) (p : ℕ → Bool) (v : ℕ) → v < n → has (mask-below n p) v ≡ p v
+has-mask-below n p v lt = has-mask n p v ∙ and-yes (p v) _ (lt-ltb v n lt)

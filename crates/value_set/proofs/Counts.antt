@@ -28,10 +28,6 @@ one-or true false h = refl
 one-or false true h = refl
 one-or false false h = refl
 
-pub and-yes : (a b : Bool) → b ≡ true → (a && b) ≡ a
-and-yes true b h = h
-and-yes false b h = refl
-
 put-back : (a b : Bool) → (b ≡ true → a ≡ true) → a ≡ ((a && not b) || b)
 put-back true true h = refl
 put-back true false h = refl

@@ -9,7 +9,7 @@ use lib.Count.{trailingZeros, under}
 use lib.Dec.{eqb}
 use Rattle.std.proofs.shelf.Tests.{cases-bool, cases-order, true≢false}
 use Rattle.value_set.specs.Members.{has, Least}
-use Rattle.value_set.proofs.Bits.{has-zero, has-suc}
+use Rattle.value_set.proofs.Bits.{has-zero, has-suc, lt-pow}
 
 -- there is at most one
 pub least-unique : (p : ℕ → Bool) (v w : ℕ) → Least p v → Least p w → v ≡ w
@@ -56,3 +56,7 @@ unfolding trailingZeros
 least-trailing zero m some fits = absurd (omega arith)
 least-trailing (suc n) m some fits =
     lowest m (trailingZeros n (m / 2)) (m % 2) refl (λ even. least-trailing n (m / 2) (omega arith) (omega (arith, pow-suc 2 n)))
+
+-- a mask that is not 0 has a least value
+pub least-mask : (m : ℕ) → 0 < m → (v : ℕ) × Least (has m) v
+least-mask m some = (trailingZeros m m, least-trailing m m some (lt-pow m))

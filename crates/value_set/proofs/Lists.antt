@@ -11,7 +11,8 @@ use lib.Seq.{getD-at}
 use Rattle.std.proofs.shelf.Lists.{getD-append-left}
 use Rattle.std.proofs.shelf.Tests.{and-left, and-right, cases-bool, cases-eq, cases-lt, eq-eqb, ne-eqb, not-from-true, not-from-false}
 use Rattle.value_set.specs.Members.{count-below, list-below, Least}
-use Rattle.value_set.proofs.Counts.{and-yes, count-in, count-out, count-up, count-unique}
+use Rattle.value_set.proofs.Bits.{and-yes}
+use Rattle.value_set.proofs.Counts.{count-in, count-out, count-up, count-unique}
 
 list-in : (n : ℕ) (p : ℕ → Bool) → p n ≡ true → list-below (suc n) p ≡ list-below n p ++ n ∷ []
 unfolding list-below

@@ -13,7 +13,8 @@ use Rattle.std.proofs.shelf.Ways.{tells}
 use Rattle.value_set.specs.declared.set.ValueSet.{ValueSet}
 use Rattle.value_set.specs.declared.values.Values.{Values}
 use Rattle.value_set.specs.Members.{member, count-below, list-below, size, Least, Next, NoMember, Nth, Without}
-use Rattle.value_set.proofs.Counts.{and-yes, count-in, count-more}
+use Rattle.value_set.proofs.Bits.{and-yes}
+use Rattle.value_set.proofs.Counts.{count-in, count-more}
 use Rattle.value_set.proofs.Lists.{list-least, list-none}
 
 -- n values of the set s are passed, those below a bound, and the set rest has the others

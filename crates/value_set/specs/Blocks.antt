@@ -1,4 +1,4 @@
--- Which configurations lie in a block, and how many. Assumes nothing.
+-- The sides of a block, the configurations that lie in it, and its size. Assumes nothing.
 use mathlib.Core.Path.{_≡_}
 use mathlib.Core.Bool.{true}
 use mathlib.Core.List.{List}

@@ -1,11 +1,11 @@
 // A set of the values of one option.
 ghost use mathlib.Core.Path.{_≡_};
-ghost use mathlib.Core.Bool.{not, _&&_, _||_};
+ghost use mathlib.Core.Bool.{_&&_, _||_};
 ghost use Prim.Native.Nat.{ℕ, _≤_, _<_};
 ghost use lib.Dec.{eqb, ltb};
 ghost use Rattle.std.specs.Options.{Cases as BySome};
 ghost use Rattle.std.specs.Orderings.{Decides};
-ghost use Rattle.value_set.specs.Members.{has, member, size, Least, NoMember, Within};
+ghost use Rattle.value_set.specs.Members.{has, member, size, Least, NoMember, Within, Without};
 
 /// An option has at most this many values, which are numbered from 0.
 pub const VALUES: u32 = 32;
@@ -100,7 +100,7 @@ impl ValueSet {
 
     /// The set with this value removed.
     pub fn without(self, value: u8) -> ValueSet
-        ensures { λ r. ⌜ ((v : ℕ) → member r v ≡ (member self v && not (eqb v value))) ⌝ }
+        ensures { λ r. ⌜ Without self value r ⌝ }
     {
         ValueSet {
             mask: self.mask & !bit(value),
