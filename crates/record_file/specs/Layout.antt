@@ -13,12 +13,6 @@ record-length = 16
 abbrev pub longest-file : ℕ
 longest-file = 40960
 
-abbrev pub most-options : ℕ
-most-options = 12
-
-abbrev pub most-values : ℕ
-most-values = 32
-
 abbrev pub most-inequalities : ℕ
 most-inequalities = 16
 

@@ -3,13 +3,10 @@ use mathlib.Core.Bool.{Bool}
 use mathlib.Core.List.{[]}
 use Prim.Native.Nat.{ℕ}
 use lib.ListN.{getD}
-use Rattle.value_set.specs.declared.set.ValueSet.{ValueSet}
+use Rattle.value_set.specs.Blocks.{no-values}
 use Rattle.value_set.specs.Members.{member}
 use Rattle.record_file.specs.declared.marks.Marks.{Marks}
 use Rattle.record_file.specs.declared.marks.RowMarks.{RowMarks}
-
-abbrev pub no-values : ValueSet
-no-values = record { mask = 0 }
 
 abbrev pub no-marks : Marks
 no-marks = record { sets = [] }

@@ -7,9 +7,10 @@ use mathlib.Core.List.{List}
 use Prim.Native.Nat.{ℕ, _%_, _≤_, _<_}
 use lib.Dec.{T, eqb, leb}
 use lib.ListN.{length}
-use Rattle.record_file.specs.Layout.{record-length, longest-file, most-options, most-values, most-inequalities}
+use Rattle.record_file.specs.Layout.{record-length, longest-file, most-inequalities}
 use Rattle.record_file.specs.Layout.{byte, word, Has-letter, O-letter, R-letter, L-letter, P-letter, count-before}
 use Rattle.record_file.specs.Layout.{Some-before, Gives, Known-option, Known-value}
+use Rattle.value_set.specs.Limits.{most-options, most-values}
 use Rattle.value_set.specs.Members.{has}
 
 -- 1: the file is too long

@@ -4,9 +4,10 @@ use mathlib.Core.List.{List}
 use Prim.Native.Nat.{ℕ, _≤_, _<_}
 use lib.ListN.{getD}
 use Rattle.std.specs.Orderings.{Decides}
+use Rattle.value_set.specs.Limits.{most-values}
 use Rattle.record_file.specs.declared.domains.Domains.{Domains}
 use Rattle.record_file.specs.declared.tally.Tally.{Tally}
-use Rattle.record_file.specs.Layout.{byte, Has-letter, O-letter, L-letter, count-before, most-values}
+use Rattle.record_file.specs.Layout.{byte, Has-letter, O-letter, L-letter, count-before}
 use Rattle.record_file.specs.Marks.{marked, row-marked}
 use Rattle.record_file.specs.Rules.{Row-before, Price-before}
 

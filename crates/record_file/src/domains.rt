@@ -4,15 +4,15 @@ ghost use Prim.Native.Nat.{ℕ, _+_, _≤_, _<_};
 ghost use lib.Dec.{ltb};
 ghost use lib.ListN.{getD};
 ghost use Rattle.std.specs.Options.{Cases};
-
-pub const MOST_OPTIONS: usize = 12;
+ghost use Rattle.value_set.specs.Limits.{most-options};
+use value_set::OPTIONS;
 
 // The O records of a sound file come first, in the order of their options, so their count is the next option's number.
 #[derive(Clone, Copy)]
 pub(crate) struct Domains {
     count: usize,
-    sizes: [u8; MOST_OPTIONS],
-    ghost few: { count ≤ 12 },
+    sizes: [u8; OPTIONS],
+    ghost few: { count ≤ most-options },
 }
 
 impl Domains {
@@ -21,7 +21,7 @@ impl Domains {
     {
         Domains {
             count: 0,
-            sizes: [0; MOST_OPTIONS],
+            sizes: [0; OPTIONS],
         }
     }
 
@@ -53,7 +53,7 @@ impl Domains {
 
     // One option more.
     pub(crate) fn push(&mut self, size: u8)
-        requires { ⌜ now self .count < 12 ⌝ }
+        requires { ⌜ now self .count < most-options ⌝ }
         ensures count { λ _. ⌜ now (self .exit) .count ≡ now (self .entry) .count + 1 ⌝ }
         ensures last { λ _. ⌜ getD (now (self .exit) .sizes) (now (self .entry) .count) 0 ≡ size ⌝ }
         ensures same { λ _. ⌜ ((j : ℕ) → j < now (self .entry) .count

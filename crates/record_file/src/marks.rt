@@ -3,14 +3,15 @@ ghost use mathlib.Core.Path.{_≡_};
 ghost use mathlib.Core.Bool.{false, _||_, _&&_};
 ghost use Prim.Native.Nat.{ℕ, _<_};
 ghost use lib.Dec.{eqb};
+ghost use Rattle.value_set.specs.Limits.{most-options, most-values};
 ghost use Rattle.record_file.specs.Marks.{marked, row-marked};
-use crate::domains::MOST_OPTIONS;
+use value_set::OPTIONS;
 use value_set::ValueSet;
 
 // For each option, the values of it that are marked.
 #[derive(Clone, Copy)]
 pub(crate) struct Marks {
-    sets: [ValueSet; MOST_OPTIONS],
+    sets: [ValueSet; OPTIONS],
 }
 
 impl Marks {
@@ -18,7 +19,7 @@ impl Marks {
         ensures { λ r. ⌜ ((o v : ℕ) → marked r o v ≡ false) ⌝ }
     {
         Marks {
-            sets: [ValueSet::EMPTY; MOST_OPTIONS],
+            sets: [ValueSet::EMPTY; OPTIONS],
         }
     }
 
@@ -32,8 +33,8 @@ impl Marks {
     }
 
     pub(crate) fn insert(&mut self, option: u8, value: u8)
-        requires option { ⌜ option < 12 ⌝ }
-        requires value { ⌜ value < 32 ⌝ }
+        requires option { ⌜ option < most-options ⌝ }
+        requires value { ⌜ value < most-values ⌝ }
         ensures { λ _. ⌜ ((o v : ℕ) → marked (now (self .exit)) o v
             ≡ (marked (now (self .entry)) o v || (eqb o option && eqb v value))) ⌝ }
     {
@@ -45,7 +46,7 @@ impl Marks {
 // For each option, the values of other options that are marked toward it.
 #[derive(Clone, Copy)]
 pub(crate) struct RowMarks {
-    toward: [Marks; MOST_OPTIONS],
+    toward: [Marks; OPTIONS],
 }
 
 impl RowMarks {
@@ -53,7 +54,7 @@ impl RowMarks {
         ensures { λ r. ⌜ ((o v p : ℕ) → row-marked r o v p ≡ false) ⌝ }
     {
         RowMarks {
-            toward: [Marks::new(); MOST_OPTIONS],
+            toward: [Marks::new(); OPTIONS],
         }
     }
 
@@ -67,9 +68,9 @@ impl RowMarks {
     }
 
     pub(crate) fn insert(&mut self, option: u8, value: u8, other: u8)
-        requires option { ⌜ option < 12 ⌝ }
-        requires value { ⌜ value < 32 ⌝ }
-        requires other { ⌜ other < 12 ⌝ }
+        requires option { ⌜ option < most-options ⌝ }
+        requires value { ⌜ value < most-values ⌝ }
+        requires other { ⌜ other < most-options ⌝ }
         ensures { λ _. ⌜ ((o v p : ℕ) → row-marked (now (self .exit)) o v p
             ≡ (row-marked (now (self .entry)) o v p || (eqb p other && (eqb o option && eqb v value)))) ⌝ }
     {

@@ -10,14 +10,13 @@ ghost use Rattle.record_file.specs.declared.fault.Rule.the-variants.{UnknownLe
 ghost use Rattle.record_file.specs.declared.fault.Rule.the-variants.{UnknownReference, MaskBeyondValues, ReservedByte};
 ghost use Rattle.record_file.specs.declared.fault.Rule.the-variants.{Duplicate, TooManyInequalities};
 use crate::domains::Domains;
-use crate::domains::MOST_OPTIONS;
 use crate::layout::RECORD_LENGTH;
 use crate::layout::byte_at;
 use crate::layout::letter_at;
 use crate::tally::Tally;
+use value_set::OPTIONS;
+use value_set::VALUES;
 use value_set::ValueSet;
-
-const MOST_VALUES: u8 = 32;
 
 const MOST_INEQUALITIES: usize = 16;
 
@@ -41,7 +40,7 @@ pub(crate) fn misplaced_option(file: &[u8], number: usize, domains: &Domains) ->
         return None;
     }
     let count = domains.count();
-    if count < number || usize::from(byte_at(file, number, 1)) != count || count >= MOST_OPTIONS {
+    if count < number || usize::from(byte_at(file, number, 1)) != count || count >= OPTIONS {
         return Some(1);
     }
     None
@@ -52,7 +51,7 @@ pub(crate) fn value_count(file: &[u8], number: usize) -> Option<u8>
     ensures { λ r. ⌜ Finds r (Breaks (now (file .entry)) ValueCount number) ⌝ }
 {
     let count = byte_at(file, number, 2);
-    if letter_at(file, number) == 'O' && (count == 0 || count > MOST_VALUES) {
+    if letter_at(file, number) == 'O' && (count == 0 || u32::from(count) > VALUES) {
         return Some(2);
     }
     None

@@ -7,6 +7,7 @@ use lib.Dec.{eqb}
 use Rattle.std.specs.declared.option.Option.{Option}
 use Rattle.std.specs.declared.option.Option.the-variants.{None, Some}
 use Rattle.value_set.specs.declared.set.ValueSet.{ValueSet}
+use Rattle.value_set.specs.Limits.{most-values}
 
 -- whether value v is in the set with mask m: bit v of m is 1
 unfoldable pub has : ℕ → ℕ → Bool
@@ -50,15 +51,15 @@ mask-below (suc n) p = mask-below n p + cond (p n) (2 ^ n) 0
 
 -- how many values the set s has
 unfoldable pub size : ValueSet → ℕ
-size s = count-below 32 (member s)
+size s = count-below most-values (member s)
 
 -- the value v of the set s has i smaller ones
 pub record Nth (s : ValueSet) (i v : ℕ) : Type 0 where
-  pub below : v < 32
+  pub below : v < most-values
   pub there : member s v ≡ true
   pub before : count-below v (member s) ≡ i
 
 -- one step through the values of the set s: r comes, the least of them or `None`, and the set t is left
 abbrev pub Next : ValueSet → Option ℕ → ValueSet → Type 0
 Next s None t = NoMember s × (t ≡ s)
-Next s (Some v) t = (v < 32) × Least (member s) v × Without s v t
+Next s (Some v) t = (v < most-values) × Least (member s) v × Without s v t

@@ -5,6 +5,7 @@ ghost use Prim.Native.Nat.{ℕ, _≤_, _<_};
 ghost use lib.Dec.{eqb, ltb};
 ghost use Rattle.std.specs.Options.{Cases as BySome};
 ghost use Rattle.std.specs.Orderings.{Decides};
+ghost use Rattle.value_set.specs.Limits.{most-values};
 ghost use Rattle.value_set.specs.Members.{has, member, size, Least, NoMember, Within, Without};
 
 /// An option has at most this many values, which are numbered from 0.
@@ -34,7 +35,7 @@ impl ValueSet {
 
     /// The values below `count`: all of them from `VALUES` on.
     pub fn first(count: u8) -> ValueSet
-        ensures { λ r. ⌜ ((v : ℕ) → member r v ≡ (ltb v count && ltb v 32)) ⌝ }
+        ensures { λ r. ⌜ ((v : ℕ) → member r v ≡ (ltb v count && ltb v most-values)) ⌝ }
     {
         if u32::from(count) < VALUES {
             ValueSet::from_mask((1 << count) - 1)
@@ -67,14 +68,14 @@ impl ValueSet {
     /// The number of values.
     pub fn len(self) -> u32
         ensures value { λ r. ⌜ r ≡ size self ⌝ }
-        ensures bound { λ r. ⌜ r ≤ 32 ⌝ }
+        ensures bound { λ r. ⌜ r ≤ most-values ⌝ }
     {
         self.mask.count_ones()
     }
 
     /// The least value, if there is one.
     pub fn least(self) -> Option<u8>
-        ensures { λ r. ⌜ BySome r (NoMember self) (λ v. (v < 32) × Least (member self) v) ⌝ }
+        ensures { λ r. ⌜ BySome r (NoMember self) (λ v. (v < most-values) × Least (member self) v) ⌝ }
     {
         if self.is_empty() {
             return None;
@@ -91,7 +92,7 @@ impl ValueSet {
 
     /// The set with this value added; a value from `VALUES` on changes nothing.
     pub fn with(self, value: u8) -> ValueSet
-        ensures { λ r. ⌜ ((v : ℕ) → member r v ≡ (member self v || (eqb v value && ltb v 32))) ⌝ }
+        ensures { λ r. ⌜ ((v : ℕ) → member r v ≡ (member self v || (eqb v value && ltb v most-values))) ⌝ }
     {
         ValueSet {
             mask: self.mask | bit(value),
@@ -110,7 +111,7 @@ impl ValueSet {
 
 /// The mask of the set of this value alone, with no bit where the value is too large for a set.
 fn bit(value: u8) -> u32
-    ensures { λ r. ⌜ ((v : ℕ) → has r v ≡ (eqb v value && ltb v 32)) ⌝ }
+    ensures { λ r. ⌜ ((v : ℕ) → has r v ≡ (eqb v value && ltb v most-values)) ⌝ }
 {
     if u32::from(value) < VALUES {
         1 << value

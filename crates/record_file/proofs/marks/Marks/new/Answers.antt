@@ -3,7 +3,7 @@ use mathlib.Core.Bool.{false}
 use lib.ListN.{replicate}
 use Rattle.value_set.specs.Members.{member}
 use Rattle.value_set.proofs.Bits.{has-none}
-use Rattle.record_file.specs.Marks.{no-values}
+use Rattle.value_set.specs.Blocks.{no-values}
 use Rattle.record_file.proofs.Marking.{holds-throughout}
 use Rattle.record_file.proofs.marks.Marks.new.Needs as need
 
