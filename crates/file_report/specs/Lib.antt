@@ -1,0 +1,4 @@
+pub mod Names
+pub mod Lines
+pub mod Tallies
+pub mod Explanations
