@@ -13,11 +13,16 @@ use Rattle.std.proofs.shelf.Ways.{tells}
 use Rattle.file_report.specs.Names.{hex-digit, quoted, printed, shown-byte, shown-name, trimmed, Printable}
 
 pub shown-more :
-    (bs : List ℕ) (i : ℕ) →
+    (bs : List ℕ) (i : ℕ) {before after : List ℕ} →
     i < length bs →
-    joined shown-byte (take i bs) ++ shown-byte (getD bs i 0) ≡ joined shown-byte (take (i + 1) bs)
-shown-more bs i inside =
-    joined-more shown-byte [] (take i bs) (getD bs i 0) ∙ ap (joined shown-byte) (sym (take-more bs i 0 inside))
+    before ≡ joined shown-byte (take i bs) →
+    after ≡ before ++ shown-byte (getD bs i 0) →
+    after ≡ joined shown-byte (take (i + 1) bs)
+shown-more bs i inside old new =
+    new
+    ∙ ap (λ text. text ++ shown-byte (getD bs i 0)) old
+    ∙ joined-more shown-byte [] (take i bs) (getD bs i 0)
+    ∙ ap (joined shown-byte) (sym (take-more bs i 0 inside))
 
 every-append : (xs ys : List ℕ) → Every Printable xs → Every Printable ys → Every Printable (xs ++ ys)
 every-append [] ys hx hy = hy

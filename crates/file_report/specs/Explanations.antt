@@ -25,7 +25,7 @@ explained PartialRecord b = codes "The file ends in the middle of a record: its 
 explained NoRecord b = codes "The file has no record."
 explained UnknownLetter b = codes "The record's letter is none of O, R, L and P."
 explained MisplacedOption b =
-    codes "The O record stands after a record of another kind, or its option is not the next one, or the thirteenth."
+    codes "The O record follows another kind, or its number is not the next one, or there are twelve options already."
 explained ValueCount b = codes "The O record gives its option no value, or more than 32."
 explained UnknownReference b = unknown-at b
 explained MaskBeyondValues b = codes "The mask at byte 4 has a value that the option at byte 3 lacks."

@@ -27,7 +27,7 @@ pub fn explanation(fault: &Fault) -> &'static str
         Rule::NoRecord => "The file has no record.",
         Rule::UnknownLetter => "The record's letter is none of O, R, L and P.",
         Rule::MisplacedOption => {
-            "The O record stands after a record of another kind, or its option is not the next one, or the thirteenth."
+            "The O record follows another kind, or its number is not the next one, or there are twelve options already."
         }
         Rule::ValueCount => "The O record gives its option no value, or more than 32.",
         Rule::UnknownReference => unknown_reference(fault.byte),

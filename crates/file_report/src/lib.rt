@@ -3,6 +3,8 @@ mod counts;
 mod explanations;
 mod lines;
 mod names;
+#[cfg(test)]
+mod tests;
 
 pub use counts::Counts;
 pub use counts::count_records;

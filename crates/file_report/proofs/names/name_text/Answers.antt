@@ -1,6 +1,4 @@
 use mathlib.Core.Path.{_≡_, sym, ap, subst, _∙_}
-use mathlib.Core.List.{_++_}
-use lib.ListN.{getD}
 use Rattle.std.specs.Joined.{joined}
 use Rattle.std.specs.Of.String.{string-bytes}
 use Rattle.std.specs.Vec.{Every}
@@ -11,11 +9,8 @@ use Rattle.file_report.proofs.names.name_text.Needs as need
 
 pub loop-byte-again : need.loop-byte-again
 loop-byte-again c =
-    let bytes = c .without-padding-byte-items .result .now in
-    let i = c .loop-byte .byte-index in
-    c .in-Continue-push-shown .ensures tt
-    ∙ ap (λ text. text ++ shown-byte (getD bytes i 0)) (c .loop-byte .inv)
-    ∙ shown-more bytes i (c .loop-byte-test .taken)
+    shown-more (c .without-padding-byte-items .result .now) (c .loop-byte .byte-index) (c .loop-byte-test .taken)
+    (c .loop-byte .inv) (c .in-Continue-push-shown .ensures tt)
 
 pub returns : need.returns
 returns c =
