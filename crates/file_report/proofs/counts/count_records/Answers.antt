@@ -39,5 +39,5 @@ loop-number-again c =
       | in-Some-Price w ↦ one-more file k P-letter (search needs) (w .counts-is) old
       | in-None w ↦
           ⊎-elim (λ past. absurd (omega (arith, c .loop-number-test .taken)))
-          (λ other. none-more file k other (w .counts-is) old) (w .in-None .ensures tt)
+          (λ other. none-more file k other (w .counts-is) old) (w .in-None .ensures tt .reads)
     ]
