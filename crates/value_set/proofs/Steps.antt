@@ -14,7 +14,7 @@ use Rattle.value_set.specs.declared.set.ValueSet.{ValueSet}
 use Rattle.value_set.specs.declared.values.Values.{Values}
 use Rattle.value_set.specs.Members.{member, count-below, list-below, size, Least, Next, NoMember, Nth, Without}
 use Rattle.value_set.proofs.Bits.{and-yes}
-use Rattle.value_set.proofs.Counts.{count-in, count-more}
+use Rattle.value_set.proofs.Counts.{count-in, count-le, count-more}
 use Rattle.value_set.proofs.Lists.{list-least, list-none}
 
 -- n values of the set s are passed, those below a bound, and the set rest has the others
@@ -63,6 +63,9 @@ module _ (s rest : ValueSet) (n v : ℕ) (p : Passed s rest n) where
             (⊎-elim (λ less. let none = l .least k less in grind (arith, tells)) (λ more. grind (arith, tells)))
             (cases-order k v);
       }
+
+pub passed-le : (s rest : ValueSet) (n : ℕ) → Passed s rest n → n ≤ 32
+passed-le s rest n p = omega (arith, count-le (p .bound) (member s))
 
 pub passed-all : (s rest : ValueSet) (n : ℕ) → Passed s rest n → NoMember rest → size s ≡ n
 unfolding size
