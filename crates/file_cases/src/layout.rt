@@ -5,12 +5,12 @@ pub const NAME_LENGTH: usize = 12;
 
 #[derive(Clone, Copy)]
 pub enum Record {
-    Choice {
+    Domain {
         number: u8,
         count: u8,
         name: [u8; NAME_LENGTH],
     },
-    Requirement {
+    Row {
         i: u8,
         a: u8,
         j: u8,
@@ -33,7 +33,7 @@ pub enum Record {
 impl Record {
     pub fn unnamed(number: u8, count: u8) -> Record {
         let name = [0; NAME_LENGTH];
-        Record::Choice {
+        Record::Domain {
             number,
             count,
             name,
@@ -42,7 +42,7 @@ impl Record {
 
     pub fn bytes(self) -> [u8; RECORD_LENGTH] {
         match self {
-            Record::Choice {
+            Record::Domain {
                 number,
                 count,
                 name,
@@ -50,7 +50,7 @@ impl Record {
                 let [a, b, c, d, e, f, g, h, i, j, k, l] = name;
                 [b'O', number, count, 0, a, b, c, d, e, f, g, h, i, j, k, l]
             }
-            Record::Requirement { i, a, j, mask } => {
+            Record::Row { i, a, j, mask } => {
                 let [m0, m1, m2, m3] = mask.to_le_bytes();
                 [b'R', i, a, j, m0, m1, m2, m3, 0, 0, 0, 0, 0, 0, 0, 0]
             }

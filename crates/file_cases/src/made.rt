@@ -18,17 +18,17 @@ const VALUES: u8 = 32;
 
 const INEQUALITIES: u8 = 16;
 
-// The records of the fullest file: 12 options, 66 * 32 requirements, 16 inequalities and 12 * 32 prices.
+// The records of the fullest file: 12 options, 66 * 32 rows, 16 inequalities and 12 * 32 prices.
 const FULLEST: usize = 2524;
 
-const FIRST_REQUIREMENT: Record = Record::Requirement {
+const FIRST_ROW: Record = Record::Row {
     i: 0,
     a: 0,
     j: 1,
     mask: u32::MAX,
 };
 
-const LAST_REQUIREMENT: Record = Record::Requirement {
+const LAST_ROW: Record = Record::Row {
     i: 10,
     a: 31,
     j: 11,
@@ -66,7 +66,7 @@ fn run_names(rt: &LibcRuntime) -> io::Result<Count> {
         for byte in 0..=u8::MAX {
             let mut name = [0; NAME_LENGTH];
             name[place] = byte;
-            let record = Record::Choice {
+            let record = Record::Domain {
                 number: 0,
                 count: 2,
                 name,
@@ -114,8 +114,8 @@ fn run_fullest(rt: &LibcRuntime, count: &mut Count) -> io::Result<()> {
             Record::unnamed(OPTIONS, VALUES),
             Verdict::refused(5, FULLEST, 1, Layer::Record),
         ),
-        ("and_its_first_requirement", FIRST_REQUIREMENT, duplicate),
-        ("and_its_last_requirement", LAST_REQUIREMENT, duplicate),
+        ("and_its_first_row", FIRST_ROW, duplicate),
+        ("and_its_last_row", LAST_ROW, duplicate),
         (
             "and_an_inequality",
             INEQUALITY,
@@ -135,12 +135,12 @@ fn run_fullest(rt: &LibcRuntime, count: &mut Count) -> io::Result<()> {
 // The first record that can have a duplicate has it at the very end.
 fn run_last_replaced(rt: &LibcRuntime, count: &mut Count, mut bytes: Vec<u8>) -> io::Result<()> {
     bytes.truncate((FULLEST - 1) * RECORD_LENGTH);
-    append(&mut bytes, FIRST_REQUIREMENT)?;
+    append(&mut bytes, FIRST_ROW)?;
     let expected = Verdict::refused(10, FULLEST - 1, 1, Layer::Book);
     show(
         rt,
         count,
-        "fullest_file_with_its_first_requirement_last",
+        "fullest_file_with_its_first_row_last",
         bytes.as_slice(),
         expected,
     )
@@ -190,7 +190,7 @@ fn fullest(heap: Global) -> Result<Vec<u8>, AllocError> {
     }
     for i in 0..OPTIONS {
         for j in i + 1..OPTIONS {
-            append_requirements(&mut bytes, i, j)?;
+            append_rows(&mut bytes, i, j)?;
         }
     }
     for _ in 0..INEQUALITIES {
@@ -202,11 +202,11 @@ fn fullest(heap: Global) -> Result<Vec<u8>, AllocError> {
     Ok(bytes)
 }
 
-fn append_requirements(bytes: &mut Vec<u8>, i: u8, j: u8) -> Result<(), AllocError> {
+fn append_rows(bytes: &mut Vec<u8>, i: u8, j: u8) -> Result<(), AllocError> {
     for a in 0..VALUES {
         append(
             bytes,
-            Record::Requirement {
+            Record::Row {
                 i,
                 a,
                 j,

@@ -7,6 +7,7 @@ mod unreadable;
 mod verdicts;
 mod words;
 
+use record_file::worked_examples;
 use std::io;
 use table::Case;
 use tally::Count;
@@ -23,6 +24,11 @@ fn main(rt: LibcRuntime) -> io::Result<()> {
         }
     }
     made::run(&rt, &mut count)?;
+    let proved = worked_examples();
+    println!(
+        rt,
+        "{proved} examples worked by hand are proved of the rules"
+    )?;
     println!(rt, "{count}")
 }
 

@@ -106,12 +106,12 @@ fn append_options(bytes: &mut Vec<u8>, mut words: Words) -> Result<(), Unreadabl
 
 fn append_record(bytes: &mut Vec<u8>, letter: &str, mut words: Words) -> Result<(), Unreadable> {
     let record = match letter {
-        "O" => Record::Choice {
+        "O" => Record::Domain {
             number: words.number()?,
             count: words.number()?,
             name: name_of(words.word()?)?,
         },
-        "R" => Record::Requirement {
+        "R" => Record::Row {
             i: words.number()?,
             a: words.number()?,
             j: words.number()?,
