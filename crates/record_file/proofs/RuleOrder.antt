@@ -2,11 +2,10 @@
 use mathlib.Core.Path.{_≡_, refl, sym, ap, subst, _∙_}
 use mathlib.Core.Logic.{_⊎_, inl, inr, ⊎-elim}
 use mathlib.Core.Bool.{cond}
-use mathlib.Core.List.{List, [], _∷_}
-use Prim.Native.Nat.{ℕ, zero, suc, _+_, _<_}
+use mathlib.Core.List.{List}
+use Prim.Native.Nat.{ℕ, _+_, _<_}
 use native.Mathlib.Omega.{arith}
 use lib.Dec.{eqb}
-use lib.ListN.{length, getD}
 use Rattle.std.specs.declared.option.Option.{Option}
 use Rattle.std.proofs.shelf.Tests.{cases-order}
 use Rattle.record_file.specs.declared.fault.Layer.the-variants.{File, Record, Book}
@@ -76,23 +75,6 @@ on-record ReservedByte lt e = never-file (inl e)
 on-record Duplicate lt e = never-file (inr e)
 on-record TooManyInequalities lt e = never-file (inr e)
 
--- the rules on records in the order in which they are looked at are those from number 4 on
-abbrev pub record-rules : List Rule
-record-rules = UnknownLetter ∷ MisplacedOption ∷ ValueCount ∷ UnknownReference ∷ MaskBeyondValues ∷ ReservedByte ∷ Duplicate ∷ TooManyInequalities ∷ []
-
--- each rule's number is one more than that of the rule before it
-abbrev Consecutive : ℕ → List Rule → Type 0
-Consecutive n [] = Unit {0}
-Consecutive n (r ∷ rs) = (number-of r ≡ n) × Consecutive (suc n) rs
-
-consecutive-at : (n : ℕ) (rs : List Rule) (d : Rule) (i : ℕ) → Consecutive n rs → i < length rs → number-of (getD rs i d) ≡ n + i
-consecutive-at n [] d i h lt = absurd (omega arith)
-consecutive-at n (r ∷ rs) d zero h lt = omega (arith, h .0)
-consecutive-at n (r ∷ rs) d (suc i) h lt = omega (arith, consecutive-at (suc n) rs d i (h .1) (omega arith))
-
-pub number-at : (d : Rule) (i : ℕ) → i < 8 → number-of (getD record-rules i d) ≡ 4 + i
-number-at d i = consecutive-at 4 record-rules d i (refl, (refl, (refl, (refl, (refl, (refl, (refl, (refl, tt))))))))
-
 -- no rule on records with a number below n is broken at record k
 abbrev pub Sound-below : List ℕ → ℕ → ℕ → Type 0
 Sound-below file k n = (r : Rule) (b : ℕ) → (layer-of r ≡ File → ⊥) → number-of r < n → Breaks file r k b → ⊥
@@ -108,6 +90,10 @@ module _ (file : List ℕ) (k : ℕ) where
       (λ same. none b (subst (λ x. Breaks file x k b) (same-rule r rule (same ∙ sym is)) broken))
       (⊎-elim (λ less. below r b nf less broken) (λ more. omega arith))
       (cases-order (number-of r) n)
+
+  pub sound-below-none : (n : ℕ) → ((rule : Rule) → number-of rule ≡ n → ⊥) → Sound-below file k n → Sound-below file k (n + 1)
+  sound-below-none n none below r b nf lt =
+      ⊎-elim (λ same. absurd (none r same)) (⊎-elim (λ less. below r b nf less) (λ more. absurd (omega arith))) (cases-order (number-of r) n)
 
   pub first-in-record : (rule : Rule) (b : ℕ) → (layer-of rule ≡ File → ⊥) → Breaks file rule k b → Sound-below file k (number-of rule) → First-in-record file k (fault-at rule k b)
   first-in-record rule b nf broken below = record {

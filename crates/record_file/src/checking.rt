@@ -24,18 +24,6 @@ use crate::rules::unknown_reference;
 use crate::rules::value_count;
 use crate::tally::Tally;
 
-// The rules on a record, in the order in which they are looked at.
-const RECORD_RULES: [Rule; 8] = [
-    Rule::UnknownLetter,
-    Rule::MisplacedOption,
-    Rule::ValueCount,
-    Rule::UnknownReference,
-    Rule::MaskBeyondValues,
-    Rule::ReservedByte,
-    Rule::Duplicate,
-    Rule::TooManyInequalities,
-];
-
 // The first fault of the file as a whole, if it has one.
 fn file_fault(file: &[u8]) -> Option<Fault>
     ensures { λ r. ⌜ Cases r (Sound-file (now (file .entry))) (First-fault (now (file .entry))) ⌝ }
@@ -72,15 +60,17 @@ fn broken_at(rule: Rule, file: &[u8], number: usize, tally: &Tally) -> Option<u8
     }
 }
 
-// The first fault of a record, if it has one.
+// The first fault of a record, if it has one: the rules are looked at in the order of their numbers.
 fn record_fault(file: &[u8], number: usize, tally: &Tally) -> Option<Fault>
     requires there { ⌜ number < whole-records (now file) ⌝ }
     requires before { ⌜ Tally-before (now file) number (now tally) ⌝ }
     ensures { λ r. ⌜ Cases r (Sound-record (now (file .entry)) number) (First-in-record (now (file .entry)) number) ⌝ }
 {
-    for rule in &RECORD_RULES {
-        if let Some(byte) = broken_at(*rule, file, number, tally) {
-            return Some(Fault::new(*rule, number, byte));
+    for rule_number in Rule::UnknownLetter.number()..Rule::TooManyInequalities.number() + 1 {
+        if let Some(rule) = Rule::from_number(rule_number) {
+            if let Some(byte) = broken_at(rule, file, number, tally) {
+                return Some(Fault::new(rule, number, byte));
+            }
         }
     }
     None

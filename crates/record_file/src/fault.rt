@@ -1,5 +1,6 @@
 // What can be wrong with a record file: the rules by name and number, and a fault with the place where it lies.
 ghost use mathlib.Core.Path.{_≡_};
+ghost use Rattle.std.specs.Options.{Cases};
 ghost use Rattle.record_file.specs.Faults.{number-of, layer-of, fault-at};
 
 // A rule of the record file. A file that breaks it is refused under the rule's number.
@@ -36,6 +37,26 @@ pub struct Fault {
 }
 
 impl Rule {
+    // The rule with a number, if there is one.
+    pub fn from_number(number: u8) -> Option<Rule>
+        ensures { λ r. ⌜ Cases r ((rule : Rule) → number-of rule ≡ number → ⊥) (λ rule. number-of rule ≡ number) ⌝ }
+    {
+        match number {
+            1 => Some(Rule::TooLong),
+            2 => Some(Rule::PartialRecord),
+            3 => Some(Rule::NoRecord),
+            4 => Some(Rule::UnknownLetter),
+            5 => Some(Rule::MisplacedOption),
+            6 => Some(Rule::ValueCount),
+            7 => Some(Rule::UnknownReference),
+            8 => Some(Rule::MaskBeyondValues),
+            9 => Some(Rule::ReservedByte),
+            10 => Some(Rule::Duplicate),
+            11 => Some(Rule::TooManyInequalities),
+            _ => None,
+        }
+    }
+
     pub fn number(self) -> u8
         ensures { λ r. ⌜ r ≡ number-of self ⌝ }
     {
