@@ -16,7 +16,7 @@ use Rattle.record_file.specs.declared.fault.Rule.the-variants.{TooLong, Partia
 use Rattle.record_file.specs.declared.fault.Rule.the-variants.{MisplacedOption, ValueCount, UnknownReference}
 use Rattle.record_file.specs.declared.fault.Rule.the-variants.{MaskBeyondValues, ReservedByte, Duplicate, TooManyInequalities}
 use Rattle.record_file.specs.Layout.{whole-records}
-use Rattle.record_file.specs.Faults.{number-of, layer-of, turn-of, First-byte, Breaks, Sooner, First-fault, First-in-record}
+use Rattle.record_file.specs.Faults.{number-of, layer-of, On-record, turn-of, First-byte, Breaks, Sooner, First-fault, First-in-record}
 use Rattle.record_file.specs.Faults.{Sound, Sound-file, Sound-record}
 use Rattle.record_file.proofs.RuleOrder.{same-rule}
 
@@ -26,7 +26,7 @@ sort-of File = inl refl
 sort-of Record = inr (λ e. let z : _≡_ {A = ℕ} 0 1 = cc in omega arith, λ k. refl)
 sort-of Book = inr (λ e. let z : _≡_ {A = ℕ} 0 1 = cc in omega arith, λ k. refl)
 
-turn-on-record : (r : Rule) → (layer-of r ≡ File → ⊥) → (k : ℕ) → turn-of (layer-of r) k ≡ suc k
+turn-on-record : (r : Rule) → On-record r → (k : ℕ) → turn-of (layer-of r) k ≡ suc k
 turn-on-record r nf k = ⊎-elim (λ is. absurd (nf is)) (λ on. on .1 k) (sort-of (layer-of r))
 
 -- there is no first byte but one
@@ -36,7 +36,7 @@ one-byte P a b ha hb =
 
 module _ (file : List ℕ) where
   -- a rule on records is broken at a record of the file
-  in-file : (r : Rule) (k b : ℕ) → (layer-of r ≡ File → ⊥) → Breaks file r k b → k < whole-records file
+  in-file : (r : Rule) (k b : ℕ) → On-record r → Breaks file r k b → k < whole-records file
   in-file TooLong k b nf h = absurd (nf refl)
   in-file PartialRecord k b nf h = absurd (nf refl)
   in-file NoRecord k b nf h = absurd (nf refl)

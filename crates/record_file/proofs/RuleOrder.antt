@@ -13,7 +13,7 @@ use Rattle.record_file.specs.declared.fault.Rule.{Rule}
 use Rattle.record_file.specs.declared.fault.Rule.the-variants.{TooLong, PartialRecord, NoRecord, UnknownLetter}
 use Rattle.record_file.specs.declared.fault.Rule.the-variants.{MisplacedOption, ValueCount, UnknownReference}
 use Rattle.record_file.specs.declared.fault.Rule.the-variants.{MaskBeyondValues, ReservedByte, Duplicate, TooManyInequalities}
-use Rattle.record_file.specs.Faults.{number-of, layer-of, fault-at, Breaks, Finds, First-in-record}
+use Rattle.record_file.specs.Faults.{number-of, layer-of, On-record, fault-at, Breaks, Finds, First-in-record}
 
 -- the rule with a number
 abbrev rule-of : ℕ → Rule
@@ -49,7 +49,7 @@ never-file : (Record ≡ File) ⊎ (Book ≡ File) → ⊥
 never-file = ⊎-elim (λ e. let z : _≡_ {A = ℕ} 0 1 = cc in omega arith) (λ e. let z : _≡_ {A = ℕ} 0 1 = cc in omega arith)
 
 -- the rules on records are those from number 4 to number 11
-pub record-rule : (r : Rule) → (layer-of r ≡ File → ⊥) → (3 < number-of r) × (number-of r < 12)
+pub record-rule : (r : Rule) → On-record r → (3 < number-of r) × (number-of r < 12)
 record-rule TooLong nf = absurd (nf refl)
 record-rule PartialRecord nf = absurd (nf refl)
 record-rule NoRecord nf = absurd (nf refl)
@@ -77,7 +77,7 @@ on-record TooManyInequalities lt e = never-file (inr e)
 
 -- no rule on records with a number below n is broken at record k
 abbrev pub Sound-below : List ℕ → ℕ → ℕ → Type 0
-Sound-below file k n = (r : Rule) (b : ℕ) → (layer-of r ≡ File → ⊥) → number-of r < n → Breaks file r k b → ⊥
+Sound-below file k n = (r : Rule) (b : ℕ) → On-record r → number-of r < n → Breaks file r k b → ⊥
 
 module _ (file : List ℕ) (k : ℕ) where
   -- a rule's answer, under another name of the rule
@@ -95,7 +95,7 @@ module _ (file : List ℕ) (k : ℕ) where
   sound-below-none n none below r b nf lt =
       ⊎-elim (λ same. absurd (none r same)) (⊎-elim (λ less. below r b nf less) (λ more. absurd (omega arith))) (cases-order (number-of r) n)
 
-  pub first-in-record : (rule : Rule) (b : ℕ) → (layer-of rule ≡ File → ⊥) → Breaks file rule k b → Sound-below file k (number-of rule) → First-in-record file k (fault-at rule k b)
+  pub first-in-record : (rule : Rule) (b : ℕ) → On-record rule → Breaks file rule k b → Sound-below file k (number-of rule) → First-in-record file k (fault-at rule k b)
   first-in-record rule b nf broken below = record {
     place = refl;
     on-record = nf;

@@ -53,7 +53,7 @@ pub record First-byte (P : ℕ → Type 0) (b : ℕ) : Type 0 where
   pub holds : P b
   pub first : (a : ℕ) → a < b → P a → ⊥
 
--- record k of the file breaks a rule on records, and the fault is at byte b
+-- a rule on records is broken at record k, which is one of the file's whole records
 pub record In-record (file : List ℕ) (k : ℕ) (Broken : Type 0) : Type 0 where
   pub there : k < whole-records file
   pub broken : Broken
@@ -98,16 +98,20 @@ Sound file = (r : Rule) (k b : ℕ) → Breaks file r k b → ⊥
 abbrev pub Sound-file : List ℕ → Type 0
 Sound-file file = (r : Rule) (k b : ℕ) → layer-of r ≡ layer.File → Breaks file r k b → ⊥
 
+-- a rule on records, and not on the file as a whole
+abbrev pub On-record : Rule → Type 0
+On-record r = layer-of r ≡ layer.File → ⊥
+
 -- no rule on records is broken at record k
 abbrev pub Sound-record : List ℕ → ℕ → Type 0
-Sound-record file k = (r : Rule) (b : ℕ) → (layer-of r ≡ layer.File → ⊥) → Breaks file r k b → ⊥
+Sound-record file k = (r : Rule) (b : ℕ) → On-record r → Breaks file r k b → ⊥
 
 -- the fault of record k that is named: of the rules on records that it breaks, the one with the smallest number
 pub record First-in-record (file : List ℕ) (k : ℕ) (f : Fault) : Type 0 where
   pub place : f .«record» ≡ k
-  pub on-record : layer-of (f .rule) ≡ layer.File → ⊥
+  pub on-record : On-record (f .rule)
   pub broken : Breaks file (f .rule) k (f .byte)
-  pub first : (r : Rule) (b : ℕ) → (layer-of r ≡ layer.File → ⊥) → Breaks file r k b → number-of r < number-of (f .rule) → ⊥
+  pub first : (r : Rule) (b : ℕ) → On-record r → Breaks file r k b → number-of r < number-of (f .rule) → ⊥
   pub layer : f .layer ≡ layer-of (f .rule)
 
 -- a rule's answer at a record: the byte at which it is broken, or none where it is not

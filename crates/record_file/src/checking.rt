@@ -6,9 +6,8 @@ ghost use Rattle.std.specs.Orderings.{Decides};
 ghost use Rattle.std.specs.Results.{isOk};
 ghost use Rattle.std.specs.Vec.{refused};
 ghost use Rattle.record_file.specs.Layout.{whole-records};
-ghost use Rattle.record_file.specs.Faults.{Breaks, Finds, layer-of};
+ghost use Rattle.record_file.specs.Faults.{Breaks, Finds, On-record};
 ghost use Rattle.record_file.specs.Faults.{Sound-file, Sound-record, Sound, First-in-record, First-fault};
-ghost use Rattle.record_file.specs.declared.fault.Layer.the-variants.{File};
 ghost use Rattle.record_file.specs.Tallies.{Tally-before};
 use crate::fault::Fault;
 use crate::fault::Rule;
@@ -45,7 +44,7 @@ fn file_fault(file: &[u8]) -> Option<Fault>
 fn broken_at(rule: Rule, file: &[u8], number: usize, tally: &Tally) -> Option<u8>
     requires there { ⌜ number < whole-records (now file) ⌝ }
     requires before { ⌜ Tally-before (now file) number (now tally) ⌝ }
-    ensures { λ r. ⌜ ((layer-of rule ≡ File → ⊥) → Finds r (Breaks (now (file .entry)) rule number)) ⌝ }
+    ensures { λ r. ⌜ (On-record rule → Finds r (Breaks (now (file .entry)) rule number)) ⌝ }
 {
     match rule {
         Rule::TooLong | Rule::PartialRecord | Rule::NoRecord => None,
