@@ -1,53 +1,41 @@
 -- How many values a set has. Assumes nothing.
 use mathlib.Core.Path.{_≡_, sym, ap, _∙_}
 use mathlib.Core.Bool.{true, false, not, _&&_, _||_}
-use Prim.Native.Nat.{ℕ, _+_, _^_, _≤_, _<_}
-use lib.Count.{ones}
+use Prim.Native.Nat.{ℕ, _+_, _≤_, _<_}
 use lib.Dec.{eqb}
 use lib.ListN.{length}
 use Rattle.std.proofs.shelf.Tests.{ne-eqb, true≢false}
 use Rattle.value_set.specs.declared.set.ValueSet.{ValueSet}
 use Rattle.value_set.specs.Members.{member, size, list-below, NoMember, Within, Without}
-use Rattle.value_set.proofs.Counts.{count-le, count-same, count-mono, count-or, count-none, none-count, count-single, count-without, ones-count}
+use Rattle.value_set.proofs.Counts.{count-le, count-same, count-mono, count-or, count-none, none-count, count-single, count-without}
 use Rattle.value_set.proofs.Lists.{length-list}
 
 pub size-le : (s : ValueSet) → size s ≤ 32
-unfolding size
 size-le s = count-le 32 (member s)
-
-pub size-ones : (s : ValueSet) → s .mask < 2 ^ 32 → ones (s .mask) ≡ size s
-unfolding size
-size-ones s fits = ones-count 32 (s .mask) fits
 
 -- a set is empty exactly if it has 0 values
 pub size-none : (s : ValueSet) → NoMember s → size s ≡ 0
-unfolding size
 size-none s none = count-none 32 (member s) (λ v _. none v)
 
 pub none-size : (s : ValueSet) → size s ≡ 0 → (v : ℕ) → v < 32 → member s v ≡ false
-unfolding size
 none-size s = none-count 32 (member s)
 
 pub size-within : (s t : ValueSet) → Within s t → size s ≤ size t
-unfolding size
 size-within s t within = count-mono 32 (member s) (member t) (λ v _. within v)
 
 -- the union u of disjoint sets s and t
 pub size-union : (s t u : ValueSet) → ((v : ℕ) → member u v ≡ (member s v || member t v))
     → ((v : ℕ) → member s v ≡ true → member t v ≡ false) → size u ≡ size s + size t
-unfolding size
 size-union s t u union apart =
     count-same 32 (member u) (λ v. member s v || member t v) (λ v _. union v) ∙ count-or 32 (member s) (member t) (λ v _. apart v)
 
 -- the set t is the set s without its value k
 pub size-without : (s t : ValueSet) (k : ℕ) → k < 32 → member s k ≡ true → Without s k t → size t + 1 ≡ size s
-unfolding size
 size-without s t k lt there without =
     ap (λ n. n + 1) (count-same 32 (member t) (λ v. member s v && not (eqb v k)) (λ v _. without v)) ∙ count-without 32 (member s) k lt there
 
 -- the set t is the set s with the value k added
 pub size-with : (s t : ValueSet) (k : ℕ) → k < 32 → member s k ≡ false → ((v : ℕ) → member t v ≡ (member s v || eqb v k)) → size t ≡ size s + 1
-unfolding size
 size-with s t k lt missing with-k =
     count-same 32 (member t) (λ v. member s v || eqb v k) (λ v _. with-k v)
     ∙ count-or 32 (member s) (λ v. eqb v k) (λ v _ there. ne-eqb v k (λ e. true≢false (sym there ∙ ap (member s) e ∙ missing)))
@@ -55,5 +43,4 @@ size-with s t k lt missing with-k =
 
 -- the values in ascending order
 pub size-list : (s : ValueSet) → length (list-below 32 (member s)) ≡ size s
-unfolding size
 size-list s = length-list 32 (member s)

@@ -68,7 +68,6 @@ pub passed-le : (s rest : ValueSet) (n : ℕ) → Passed s rest n → n ≤ 32
 passed-le s rest n p = omega (arith, count-le (p .bound) (member s))
 
 pub passed-all : (s rest : ValueSet) (n : ℕ) → Passed s rest n → NoMember rest → size s ≡ n
-unfolding size
 passed-all s rest n p none = gap s rest n 32 p (λ k _. none k) (p .low)
 
 -- the iterator gives the values in ascending order

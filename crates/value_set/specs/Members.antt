@@ -50,7 +50,7 @@ mask-below zero p = 0
 mask-below (suc n) p = mask-below n p + cond (p n) (2 ^ n) 0
 
 -- how many values the set s has
-unfoldable pub size : ValueSet → ℕ
+abbrev pub size : ValueSet → ℕ
 size s = count-below most-values (member s)
 
 -- the value v of the set s has i smaller ones

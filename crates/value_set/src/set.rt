@@ -6,7 +6,8 @@ ghost use lib.Dec.{eqb, ltb};
 ghost use Rattle.std.specs.Options.{Cases as BySome};
 ghost use Rattle.std.specs.Orderings.{Decides};
 ghost use Rattle.value_set.specs.Limits.{most-values};
-ghost use Rattle.value_set.specs.Members.{has, member, size, Least, NoMember, Within, Without};
+ghost use Rattle.value_set.specs.Members.{member, size, Least, NoMember, Within, Without};
+use crate::masks;
 
 /// An option has at most this many values, which are numbered from 0.
 pub const VALUES: u32 = 32;
@@ -37,17 +38,15 @@ impl ValueSet {
     pub fn first(count: u8) -> ValueSet
         ensures { λ r. ⌜ ((v : ℕ) → member r v ≡ (ltb v count && ltb v most-values)) ⌝ }
     {
-        if u32::from(count) < VALUES {
-            ValueSet::from_mask((1 << count) - 1)
-        } else {
-            ValueSet::from_mask(u32::MAX)
+        ValueSet {
+            mask: masks::below(count),
         }
     }
 
     pub fn contains(self, value: u8) -> bool
         ensures { λ r. ⌜ r ≡ member self value ⌝ }
     {
-        self.mask & bit(value) != 0
+        masks::holds(self.mask, value)
     }
 
     /// The values that are in both sets.
@@ -55,14 +54,14 @@ impl ValueSet {
         ensures { λ r. ⌜ ((v : ℕ) → member r v ≡ (member self v && member other v)) ⌝ }
     {
         ValueSet {
-            mask: self.mask & other.mask,
+            mask: masks::both(self.mask, other.mask),
         }
     }
 
     pub fn is_empty(self) -> bool
         ensures { λ r. ⌜ Decides r (NoMember self) ⌝ }
     {
-        self.mask == 0
+        masks::is_empty(self.mask)
     }
 
     /// The number of values.
@@ -70,24 +69,21 @@ impl ValueSet {
         ensures value { λ r. ⌜ r ≡ size self ⌝ }
         ensures bound { λ r. ⌜ r ≤ most-values ⌝ }
     {
-        self.mask.count_ones()
+        masks::count(self.mask)
     }
 
     /// The least value, if there is one.
     pub fn least(self) -> Option<u8>
         ensures { λ r. ⌜ BySome r (NoMember self) (λ v. (v < most-values) × Least (member self) v) ⌝ }
     {
-        if self.is_empty() {
-            return None;
-        }
-        Some(self.mask.trailing_zeros() as u8)
+        masks::lowest(self.mask)
     }
 
     /// Whether each value of this set is in the other.
     pub fn is_within(self, other: ValueSet) -> bool
         ensures { λ r. ⌜ Decides r (Within self other) ⌝ }
     {
-        self.common(other) == self
+        masks::within(self.mask, other.mask)
     }
 
     /// The set with this value added; a value from `VALUES` on changes nothing.
@@ -95,7 +91,7 @@ impl ValueSet {
         ensures { λ r. ⌜ ((v : ℕ) → member r v ≡ (member self v || (eqb v value && ltb v most-values))) ⌝ }
     {
         ValueSet {
-            mask: self.mask | bit(value),
+            mask: masks::plus(self.mask, value),
         }
     }
 
@@ -104,18 +100,7 @@ impl ValueSet {
         ensures { λ r. ⌜ Without self value r ⌝ }
     {
         ValueSet {
-            mask: self.mask & !bit(value),
+            mask: masks::minus(self.mask, value),
         }
-    }
-}
-
-/// The mask of the set of this value alone, with no bit where the value is too large for a set.
-fn bit(value: u8) -> u32
-    ensures { λ r. ⌜ ((v : ℕ) → has r v ≡ (eqb v value && ltb v most-values)) ⌝ }
-{
-    if u32::from(value) < VALUES {
-        1 << value
-    } else {
-        0
     }
 }

@@ -7,11 +7,11 @@ use Rattle.std.proofs.shelf.Tests.{cases-lt}
 use Rattle.std.proofs.shelf.Ways.{tells}
 use Rattle.value_set.specs.Members.{has}
 use Rattle.value_set.proofs.Bits.{has-above, has-clear}
-use Rattle.value_set.proofs.set.ValueSet.without.Needs as need
+use Rattle.value_set.proofs.masks.minus.Needs as need
 
 pub returns : need.returns
 returns c v =
-    let m = c .args .self .mask in
+    let m = c .args .mask in
     let fits : m < 2 ^ 32 = omega arith in
     has-clear 32 m (c .bit .result) v fits (c .bit .ok) ∙ ap (λ b. has m v && not b) (c .bit .ensures v) ∙ ⊎-elim
     (λ lt. grind (arith, tells))

@@ -5,13 +5,13 @@ use Rattle.std.proofs.shelf.Bits.{one-shl}
 use Rattle.std.proofs.shelf.Ways.{tells}
 use Rattle.value_set.specs.Members.{has}
 use Rattle.value_set.proofs.Bits.{has-first}
-use Rattle.value_set.proofs.set.ValueSet.first.Needs as need
+use Rattle.value_set.proofs.masks.below.Needs as need
 
 pub returns-then-from-lt-VALUES : need.returns-then-from-lt-VALUES
 returns-then-from-lt-VALUES c v =
     let n = c .args .count in
     let below : n < 32 = omega arith in
-    ap (λ m. has m v) (c .from-mask .ensures) ∙ ap (λ m. has (m - 1) v) (one-shl n 32 below) ∙ has-first n v ∙ grind (arith, tells)
+    ap (λ m. has (m - 1) v) (one-shl n 32 below) ∙ has-first n v ∙ grind (arith, tells)
 
 pub returns-else-from-lt-VALUES : need.returns-else-from-lt-VALUES
-returns-else-from-lt-VALUES c v = ap (λ m. has m v) (c .from-mask-else-from-lt-VALUES .ensures) ∙ has-first 32 v ∙ grind (arith, tells)
+returns-else-from-lt-VALUES c v = has-first 32 v ∙ grind (arith, tells)

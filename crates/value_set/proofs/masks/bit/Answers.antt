@@ -5,7 +5,7 @@ use Rattle.std.proofs.shelf.Bits.{one-shl}
 use Rattle.std.proofs.shelf.Ways.{tells}
 use Rattle.value_set.specs.Members.{has}
 use Rattle.value_set.proofs.Bits.{has-none, has-single}
-use Rattle.value_set.proofs.set.bit.Needs as need
+use Rattle.value_set.proofs.masks.bit.Needs as need
 
 pub returns-then-from-lt-VALUES : need.returns-then-from-lt-VALUES
 returns-then-from-lt-VALUES c v =
