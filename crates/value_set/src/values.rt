@@ -1,8 +1,9 @@
 // The values of a set one after the other.
 ghost use mathlib.Core.Path.{_≡_};
-ghost use Prim.Native.Nat.{_≤_};
+ghost use Prim.Native.Nat.{_≤_, _<_};
 ghost use Rattle.std.specs.Options.{Cases as BySome};
-ghost use Rattle.value_set.specs.Members.{size, Next, Nth};
+ghost use Rattle.std.specs.declared.option.Option.the-variants.{Some};
+ghost use Rattle.value_set.specs.Members.{size, Next, NoMember, Nth};
 use crate::set::ValueSet;
 use crate::set::ValueSetDebug;
 
@@ -23,8 +24,8 @@ pub impl Iterator for Values as ValuesIterator {
     ghost left = { λ s. size (s .rest) };
 
     fn next(&mut self) -> Option<u8> {
-        let value = self.rest.least()?;
-        self.rest = self.rest.without(value);
+        let (value, others) = self.rest.split_least()?;
+        self.rest = others;
         Some(value)
     }
 }
@@ -49,5 +50,13 @@ impl ValueSet {
             passed += 1;
         }
         None
+    }
+
+    /// The least value and the set of the others, which is smaller.
+    fn split_least(self) -> Option<(u8, ValueSet)>
+        ensures { λ r. ⌜ BySome r (NoMember self) (λ p. Next self (Some (p .0)) (p .1) × (size (p .1) < size self)) ⌝ }
+    {
+        let value = self.least()?;
+        Some((value, self.without(value)))
     }
 }

@@ -1,11 +1,10 @@
-use mathlib.Core.Path.{_≡_, ap}
+use mathlib.Core.Path.{_≡_}
 use native.Mathlib.Omega.{arith}
-use Rattle.value_set.specs.Members.{size}
 use Rattle.value_set.proofs.Steps.{passed-none, passed-nth, passed-next, passed-all}
 use Rattle.value_set.proofs.set.ValueSet.nth.Needs as need
 
 pub loop-value-holds : need.loop-value-holds
-loop-value-holds c = (tt, tt, omega arith, passed-none _)
+loop-value-holds c = (tt, tt, omega arith, passed-none _, passed-all _ _ _ (passed-none _))
 
 pub returns-then-passed-index : need.returns-then-passed-index
 returns-then-passed-index c =
@@ -16,10 +15,5 @@ returns-then-passed-index c =
 pub loop-value-again : need.loop-value-again
 loop-value-again c =
     let step = c .in-Some .ensures tt .steps in
-    (tt, tt, omega arith, passed-next _ _ _ _ (c .loop-value .inv .3) _ (step .0) (step .1) (step .2))
-
-pub returns : need.returns
-returns c =
-    let whole : c .into-iter-value-iterator .result .rest ≡ c .args .self = cc in
-    let all = passed-all _ _ _ (c .loop-value .inv .3) (c .in-None .ensures tt .steps .0) in
-    omega (arith, ap size whole)
+    let passed = passed-next _ _ _ _ (c .loop-value .inv .3) _ (step .0) (step .1) (step .2) in
+    (tt, tt, omega arith, passed, passed-all _ _ _ passed)
