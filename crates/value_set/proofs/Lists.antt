@@ -10,7 +10,7 @@ use lib.ListN.{length, getD, length-append}
 use lib.Seq.{getD-at}
 use Rattle.std.proofs.shelf.Lists.{getD-append-left}
 use Rattle.std.proofs.shelf.Tests.{and-left, and-right, cases-bool, cases-eq, cases-lt, eq-eqb, ne-eqb, not-from-true, not-from-false}
-use Rattle.value_set.specs.Members.{count-below, list-below, Least}
+use Rattle.value_set.specs.Members.{count-below, list-below, Least, Placed}
 use Rattle.value_set.proofs.Bits.{and-yes}
 use Rattle.value_set.proofs.Counts.{count-in, count-out, count-up, count-unique}
 
@@ -32,11 +32,7 @@ length-list (suc n) p = length-append (list-below n p) _ ∙ ap₂ (λ a b. a + 
     one true = refl
     one false = refl
 
--- the number v at place i passes, and i numbers below it do: the list is ascending, and has each number once
-pub record Placed (n : ℕ) (p : ℕ → Bool) (i v : ℕ) : Type 0 where
-  pub below : v < n
-  pub there : p v ≡ true
-  pub before : count-below v p ≡ i
+-- ---- the list is ascending, and has each number once
 
 placed-more : (n : ℕ) (p : ℕ → Bool) (i v : ℕ) → Placed n p i v → Placed (suc n) p i v
 placed-more n p i v h = record { below = omega (arith, h .below); there = h .there; before = h .before }

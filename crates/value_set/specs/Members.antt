@@ -53,11 +53,15 @@ mask-below (suc n) p = mask-below n p + cond (p n) (2 ^ n) 0
 abbrev pub size : ValueSet → ℕ
 size s = count-below most-values (member s)
 
+-- of the numbers below n that pass the test p, v is the one that has i smaller ones
+pub record Placed (n : ℕ) (p : ℕ → Bool) (i v : ℕ) : Type 0 where
+  pub below : v < n
+  pub there : p v ≡ true
+  pub before : count-below v p ≡ i
+
 -- the value v of the set s has i smaller ones
-pub record Nth (s : ValueSet) (i v : ℕ) : Type 0 where
-  pub below : v < most-values
-  pub there : member s v ≡ true
-  pub before : count-below v (member s) ≡ i
+abbrev pub Nth : ValueSet → ℕ → ℕ → Type 0
+Nth s i v = Placed most-values (member s) i v
 
 -- one step through the values of the set s: r comes, the least of them or `None`, and the set t is left
 abbrev pub Next : ValueSet → Option ℕ → ValueSet → Type 0
