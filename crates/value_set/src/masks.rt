@@ -21,7 +21,7 @@ fn bit(value: u8) -> u32
 }
 
 /// The values below `count`.
-pub fn below(count: u8) -> u32
+pub(crate) fn below(count: u8) -> u32
     ensures { λ r. ⌜ ((v : ℕ) → has r v ≡ (ltb v count && ltb v most-values)) ⌝ }
 {
     if u32::from(count) < VALUES {
@@ -31,45 +31,45 @@ pub fn below(count: u8) -> u32
     }
 }
 
-pub fn holds(mask: u32, value: u8) -> bool
+pub(crate) fn holds(mask: u32, value: u8) -> bool
     ensures { λ r. ⌜ r ≡ has mask value ⌝ }
 {
     mask & bit(value) != 0
 }
 
-pub fn plus(mask: u32, value: u8) -> u32
+pub(crate) fn plus(mask: u32, value: u8) -> u32
     ensures { λ r. ⌜ ((v : ℕ) → has r v ≡ (has mask v || (eqb v value && ltb v most-values))) ⌝ }
 {
     mask | bit(value)
 }
 
-pub fn minus(mask: u32, value: u8) -> u32
+pub(crate) fn minus(mask: u32, value: u8) -> u32
     ensures { λ r. ⌜ ((v : ℕ) → has r v ≡ (has mask v && not (eqb v value))) ⌝ }
 {
     mask & !bit(value)
 }
 
-pub fn both(a: u32, b: u32) -> u32
+pub(crate) fn both(a: u32, b: u32) -> u32
     ensures { λ r. ⌜ ((v : ℕ) → has r v ≡ (has a v && has b v)) ⌝ }
 {
     a & b
 }
 
 /// Whether each value of `a` is in `b`.
-pub fn within(a: u32, b: u32) -> bool
+pub(crate) fn within(a: u32, b: u32) -> bool
     ensures { λ r. ⌜ Decides r ((v : ℕ) → has a v ≡ true → has b v ≡ true) ⌝ }
 {
     a & b == a
 }
 
-pub fn is_empty(mask: u32) -> bool
+pub(crate) fn is_empty(mask: u32) -> bool
     ensures { λ r. ⌜ Decides r ((v : ℕ) → has mask v ≡ false) ⌝ }
 {
     mask == 0
 }
 
 /// The number of values.
-pub fn count(mask: u32) -> u32
+pub(crate) fn count(mask: u32) -> u32
     ensures value { λ r. ⌜ r ≡ count-below most-values (has mask) ⌝ }
     ensures bound { λ r. ⌜ r ≤ most-values ⌝ }
 {
@@ -77,7 +77,7 @@ pub fn count(mask: u32) -> u32
 }
 
 /// The least value, if there is one.
-pub fn lowest(mask: u32) -> Option<u8>
+pub(crate) fn lowest(mask: u32) -> Option<u8>
     ensures { λ r. ⌜ BySome r ((v : ℕ) → has mask v ≡ false) (λ v. (v < most-values) × Least (has mask) v) ⌝ }
 {
     if is_empty(mask) {

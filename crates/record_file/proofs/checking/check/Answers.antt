@@ -13,9 +13,6 @@ returns-in-Some c =
 pub loop-number-holds : need.loop-number-holds
 loop-number-holds c = (c .new-tally .ensures (c .args .file .now), λ k lt. absurd (omega arith))
 
-pub record-fault-requires : need.record-fault-requires
-record-fault-requires c κs = record { there = c .loop-number-test .taken; before = c .loop-number .inv .0 }
-
 pub returns-in-Some-record-fault : need.returns-in-Some-record-fault
 returns-in-Some-record-fault c =
     let told = first-by-records _ (c .in-rest .ensures tt) _ _ (c .loop-number .inv .1) (c .in-Some-record-fault .ensures tt) in
