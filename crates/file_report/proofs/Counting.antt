@@ -1,33 +1,22 @@
 -- One record more in the counts of the records so far. Assumes nothing.
-use mathlib.Core.Path.{_≡_, refl, sym, ap, subst, _∙_}
-use mathlib.Core.Bool.{Bool, true, false, cond}
+use mathlib.Core.Path.{_≡_, sym, ap, subst, _∙_}
+use mathlib.Core.Logic.{⊎-elim}
+use mathlib.Core.Bool.{Bool, true, false}
 use mathlib.Core.List.{List}
-use Prim.Native.Nat.{ℕ, zero, suc, _+_, _≤_}
-use native.Mathlib.Numerals.{add-one}
+use Prim.Native.Nat.{ℕ, _+_}
 use native.Mathlib.Omega.{arith}
 use lib.Dec.{eqb}
-use Rattle.std.proofs.shelf.Tests.{ne-eqb}
+use borrow.Author.Tests.{eqb-true, eqb-false}
+use Rattle.std.proofs.shelf.Tests.{cases-bool}
 use Rattle.record_file.specs.Layout.{byte, count-before, O-letter, R-letter, L-letter, P-letter}
 use Rattle.record_file.specs.Rules.{Unknown-letter}
+use Rattle.record_file.proofs.Counting.{count-before-none, count-before-in, count-before-out}
 use Rattle.file_report.specs.declared.counts.Counts.{Counts}
 use Rattle.file_report.specs.Tallies.{Counts-before}
-
-at-most-one : (b : Bool) → cond b 1 0 ≤ 1
-at-most-one true = omega arith
-at-most-one false = omega arith
-
-pub count-le : (file : List ℕ) (letter k : ℕ) → count-before file letter k ≤ k
-unfolding count-before
-count-le file letter zero = omega arith
-count-le file letter (suc k) = omega (arith, at-most-one (eqb (byte file k 0) letter), count-le file letter k)
 
 abbrev one-if : Bool → ℕ → ℕ
 one-if true n = n + 1
 one-if false n = n
-
-one-if-is : (b : Bool) (n : ℕ) → one-if b n ≡ cond b 1 0 + n
-one-if-is true n = omega arith
-one-if-is false n = omega arith
 
 -- the counts with a record of this letter
 abbrev pub with-letter : ℕ → Counts → Counts
@@ -40,18 +29,23 @@ with-letter b c = record {
 
 module _ (file : List ℕ) where
   pub none-yet : Counts-before file 0 (record { domains = 0; rows = 0; inequalities = 0; prices = 0 })
-  unfolding count-before
-  none-yet = record { domains = refl; rows = refl; inequalities = refl; prices = refl }
+  none-yet = record {
+    domains = sym (count-before-none file O-letter);
+    rows = sym (count-before-none file R-letter);
+    inequalities = sym (count-before-none file L-letter);
+    prices = sym (count-before-none file P-letter);
+  }
 
   module _ (k : ℕ) where
     count-more :
         (letter n : ℕ) →
         n ≡ count-before file letter k →
         one-if (eqb (byte file k 0) letter) n ≡ count-before file letter (k + 1)
-    unfolding count-before
     count-more letter n e =
-        let more = ap (count-before file letter) (add-one k) in
-        omega (arith, e, one-if-is (eqb (byte file k 0) letter) n, more)
+        ⊎-elim
+        (λ t. ap (λ b. one-if b n) t ∙ omega (arith, e, count-before-in file letter k (eqb-true (byte file k 0) letter t)))
+        (λ f. ap (λ b. one-if b n) f ∙ omega (arith, e, count-before-out file letter k (eqb-false (byte file k 0) letter f)))
+        (cases-bool (eqb (byte file k 0) letter))
 
     pub one-more :
         (b : ℕ) {c d : Counts} →
@@ -73,9 +67,7 @@ module _ (file : List ℕ) where
         (byte file k 0 ≡ letter → ⊥) →
         n ≡ count-before file letter k →
         n ≡ count-before file letter (k + 1)
-    not-counted letter n other e =
-        let same = ap (λ b. one-if b n) (ne-eqb (byte file k 0) letter other) in
-        sym same ∙ count-more letter n e
+    not-counted letter n other e = e ∙ sym (count-before-out file letter k other)
 
     pub none-more :
         {c d : Counts} → Unknown-letter file k → d ≡ c → Counts-before file k c → Counts-before file (k + 1) d

@@ -6,7 +6,7 @@ use Prim.Native.Nat.{ℕ, zero, suc, _^_, _≤_, _<_}
 use native.Mathlib.Omega.{arith}
 use lib.Dec.{T, leb, ltb}
 use borrow.Author.Tests.{leb-true, leb-false, lt-ltb, clash}
-use Rattle.std.proofs.shelf.Tests.{cases-bool, cases-order}
+use Rattle.std.proofs.shelf.Tests.{and-parts, cases-bool, cases-order}
 use Rattle.value_set.specs.declared.set.ValueSet.{ValueSet}
 use Rattle.value_set.specs.Members.{member, Within}
 use Rattle.value_set.proofs.Bits.{has-below}
@@ -24,10 +24,6 @@ some-below (suc n) p =
     (cases-bool (p n)))
     (some-below n p)
 
-both-true : (a b : Bool) → (a && b) ≡ true → (a ≡ true) × (b ≡ true)
-both-true true b e = (refl, e)
-both-true false b e = (e, absurd (clash e))
-
 is-true : (b : Bool) → b ≡ true → T b
 is-true true e = tt
 is-true false e = clash e
@@ -43,7 +39,7 @@ not-there false b e t = absurd (clash t)
 pub value-beyond : (m : ℕ) (s t : ValueSet) → s .mask < 2 ^ 32 → ((v : ℕ) → member t v ≡ (ltb v m && ltb v 32)) → (Within s t → ⊥) → (v : ℕ) × (m ≤ v) × T (member s v)
 value-beyond m s t fits first outside =
     ⊎-elim
-    (λ found. let both = both-true _ _ (found .2) in (found .0, leb-true _ _ (both .1), is-true _ (both .0)))
+    (λ found. let both = and-parts _ _ (found .2) in (found .0, leb-true _ _ (both .1), is-true _ (both .0)))
     (λ none.
     absurd (outside (λ v there.
     let low = has-below 32 (s .mask) v fits there in

@@ -5,6 +5,7 @@ use mathlib.Core.Bool.{Bool, true, _||_, _&&_}
 use mathlib.Core.List.{List}
 use Prim.Native.Nat.{ℕ, _+_, _≤_, _<_}
 use native.Mathlib.Omega.{arith}
+use borrow.Author.Count.{below-more}
 use lib.Dec.{eqb}
 use lib.ListN.{getD}
 use Rattle.std.specs.Orderings.{Decides}
@@ -19,10 +20,6 @@ use Rattle.record_file.specs.Faults.{Sound-record}
 use Rattle.record_file.specs.Tallies.{Domains-before, Tally-before}
 use Rattle.record_file.proofs.Counting.{count-before-in, count-before-out, decides-one-more, decides-no-more}
 use Rattle.record_file.proofs.SoundRecords.{all-options, next-option, few-values}
-
--- what holds of every place below n, and of n, holds of every place below n + 1
-upto : (P : ℕ → Type 0) (n : ℕ) → ((j : ℕ) → j < n → P j) → P n → (j : ℕ) → j < n + 1 → P j
-upto P n below here j lt = ⊎-elim (λ same. subst P (sym same) here) (⊎-elim (below j) (λ more. absurd (omega arith))) (cases-order j n)
 
 module _ (file : List ℕ) (k : ℕ) where
   -- the options, after a record of another kind
@@ -53,10 +50,10 @@ module _ (file : List ℕ) (k : ℕ) where
       record {
         leading = omega arith;
         counted = omega (arith, count-before-in file O-letter k letter, h .counted);
-        letters = λ j lt. upto (λ i. Has-letter file i O-letter) (d .count) (h .letters) here j (omega arith);
-        options = λ j lt. upto (λ i. byte file i 1 ≡ i) (d .count) (h .options) option j (omega arith);
-        sizes = λ j lt. upto (λ i. byte file i 2 ≡ getD (e .sizes) i 0) (d .count) (λ i l. h .sizes i l ∙ sym (same i l)) size j (omega arith);
-        bounded = λ j lt. upto (λ i. getD (e .sizes) i 0 ≤ 32) (d .count) (λ i l. omega (arith, h .bounded i l, same i l)) (omega arith) j (omega arith);
+        letters = λ j lt. below-more (λ i. Has-letter file i O-letter) (d .count) (h .letters) here j (omega arith);
+        options = λ j lt. below-more (λ i. byte file i 1 ≡ i) (d .count) (h .options) option j (omega arith);
+        sizes = λ j lt. below-more (λ i. byte file i 2 ≡ getD (e .sizes) i 0) (d .count) (λ i l. h .sizes i l ∙ sym (same i l)) size j (omega arith);
+        bounded = λ j lt. below-more (λ i. getD (e .sizes) i 0 ≤ 32) (d .count) (λ i l. omega (arith, h .bounded i l, same i l)) (omega arith) j (omega arith);
         others = λ j from lt. absurd (omega arith);
       }
 

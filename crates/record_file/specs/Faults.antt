@@ -12,7 +12,7 @@ use Rattle.record_file.specs.declared.fault.Rule.{Rule}
 use Rattle.record_file.specs.declared.fault.Rule.the-variants.{TooLong, PartialRecord, NoRecord, UnknownLetter}
 use Rattle.record_file.specs.declared.fault.Rule.the-variants.{MisplacedOption, ValueCount, UnknownReference}
 use Rattle.record_file.specs.declared.fault.Rule.the-variants.{MaskBeyondValues, ReservedByte, Duplicate, TooManyInequalities}
-use Rattle.record_file.specs.Layout.{whole-records}
+use Rattle.record_file.specs.Layout.{whole-records, most-records}
 use Rattle.record_file.specs.Rules.{Too-long, Partial-record, No-record, Unknown-letter, Misplaced-option, Wrong-count}
 use Rattle.record_file.specs.Rules.{Unknown-at, Mask-beyond-values, Nonzero-at, Repeated, Too-many-inequalities}
 
@@ -60,7 +60,7 @@ pub record In-record (file : List ℕ) (k : ℕ) (Broken : Type 0) : Type 0 wher
 
 -- the file breaks the rule, and the fault names record k and byte b
 abbrev pub Breaks : List ℕ → Rule → ℕ → ℕ → Type 0
-Breaks file TooLong k b = Too-long file × (k ≡ 2560) × (b ≡ 0)
+Breaks file TooLong k b = Too-long file × (k ≡ most-records) × (b ≡ 0)
 Breaks file PartialRecord k b = Partial-record file × (k ≡ whole-records file) × (b ≡ 0)
 Breaks file NoRecord k b = No-record file × (k ≡ 0) × (b ≡ 0)
 Breaks file UnknownLetter k b = In-record file k (Unknown-letter file k) × (b ≡ 0)

@@ -13,6 +13,9 @@ record-length = 16
 abbrev pub longest-file : ℕ
 longest-file = 40960
 
+abbrev pub most-records : ℕ
+most-records = longest-file / record-length
+
 abbrev pub most-inequalities : ℕ
 most-inequalities = 16
 

@@ -2,7 +2,8 @@ use mathlib.Core.Logic.{⊎-elim}
 use native.Mathlib.Omega.{arith}
 use borrow.Author.Needs.{needs}
 use Rattle.record_file.specs.Layout.{O-letter, R-letter, L-letter, P-letter}
-use Rattle.file_report.proofs.Counting.{count-le, none-yet, one-more, none-more}
+use Rattle.record_file.proofs.Counting.{count-before-le}
+use Rattle.file_report.proofs.Counting.{none-yet, one-more, none-more}
 use Rattle.file_report.proofs.counts.count_records.Needs as need
 use Rattle.file_report.proofs.counts.count_records.Needs.{in-Some-Domain, in-Some-Row, in-Some-Inequality}
 use Rattle.file_report.proofs.counts.count_records.Needs.{in-Some-Price, in-None}
@@ -13,19 +14,19 @@ loop-number-holds c = none-yet (c .args .file .now)
 -- so far a count is at most the number of records read
 pub add-counts : need.add-counts
 add-counts c =
-    omega (arith, c .loop-number .inv .domains, count-le (c .args .file .now) O-letter (c .loop-number .number))
+    omega (arith, c .loop-number .inv .domains, count-before-le (c .args .file .now) O-letter (c .loop-number .number))
 
 pub add-counts-in-Some-Row : need.add-counts-in-Some-Row
 add-counts-in-Some-Row c =
-    omega (arith, c .loop-number .inv .rows, count-le (c .args .file .now) R-letter (c .loop-number .number))
+    omega (arith, c .loop-number .inv .rows, count-before-le (c .args .file .now) R-letter (c .loop-number .number))
 
 pub add-counts-in-Some-Inequality : need.add-counts-in-Some-Inequality
 add-counts-in-Some-Inequality c =
-    omega (arith, c .loop-number .inv .inequalities, count-le (c .args .file .now) L-letter (c .loop-number .number))
+    omega (arith, c .loop-number .inv .inequalities, count-before-le (c .args .file .now) L-letter (c .loop-number .number))
 
 pub add-counts-in-Some-Price : need.add-counts-in-Some-Price
 add-counts-in-Some-Price c =
-    omega (arith, c .loop-number .inv .prices, count-le (c .args .file .now) P-letter (c .loop-number .number))
+    omega (arith, c .loop-number .inv .prices, count-before-le (c .args .file .now) P-letter (c .loop-number .number))
 
 pub loop-number-again : need.loop-number-again
 loop-number-again c =
