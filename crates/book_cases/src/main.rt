@@ -1,4 +1,6 @@
 // Compares what rule books and tariffs answer with a reading of the records that shares no code with them.
+#![tactic(auto)]
+
 mod asked;
 mod bars;
 mod joints;

@@ -1,5 +1,7 @@
 // What a rule book comes to, and the printed lines about it: how many values of two options go together, and the
 // cheapest value of an option.
+#![tactic(auto)]
+
 mod cheapest;
 mod lines;
 mod pairs;

@@ -1,4 +1,6 @@
 // A book and a measure from outside: each says what it means and shows its law, and works with all that is generic.
+#![tactic(auto)]
+
 mod dearest;
 mod near_book;
 

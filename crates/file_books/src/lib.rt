@@ -1,4 +1,6 @@
 // The rule books that are made from the bytes of a record file.
+#![tactic(auto)]
+
 mod conflicts;
 mod domains;
 mod file_book;

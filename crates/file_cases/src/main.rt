@@ -1,4 +1,6 @@
 // Runs the check of a record file over the table of cases on standard input, and then over files made by rule.
+#![tactic(auto)]
+
 mod layout;
 mod made;
 mod table;

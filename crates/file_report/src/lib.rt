@@ -1,4 +1,6 @@
 // The printed lines about a record file: its options, its counts, and why it is refused.
+#![tactic(auto)]
+
 mod counts;
 mod explanations;
 mod lines;

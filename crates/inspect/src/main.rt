@@ -1,4 +1,6 @@
 // Prints what a record file on standard input holds, or why it is refused.
+#![tactic(auto)]
+
 ghost use Rattle.std.specs.Prelude.{◌≡◌};
 
 mod input;

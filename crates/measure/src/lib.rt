@@ -1,5 +1,7 @@
 // Measures, which weigh configurations: what a measure is, the count and the tariff, and what can be done with any
 // measure.
+#![tactic(auto)]
+
 mod count;
 mod prices;
 mod tariff;

@@ -1,4 +1,6 @@
 // The record file of a rule book: reads its records one by one, and checks the file against the rules of the format.
+#![tactic(auto)]
+
 mod checking;
 mod domains;
 mod examples;

@@ -1,4 +1,6 @@
 // Rule books: what each answers, and the books that stand over other books.
+#![tactic(auto)]
+
 mod barred;
 mod book;
 mod joint;

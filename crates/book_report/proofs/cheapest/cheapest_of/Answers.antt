@@ -13,11 +13,11 @@ pub loop-value-preserved : goal.loop-value-preserved
 loop-value-preserved c =
     let step = c.in-Some.ensures.steps in
     let next : Cheapest = record { value = c.in-Some.value; price = c.price.result } in
-    (tt, tt, found_one _ _ _ _ next step.1 step.2 _ _ c.price.ensures c.cheaper-of.ensures c.loop-value.invariant.2)
+    (tt, tt, found_one _ _ _ _ next step.1 step.2 _ _ c.price.ensures c.cheaper_of.ensures c.loop-value.invariant.2)
 
 pub returns : goal.returns
 returns c =
     let prices = asked_price (price_of c.args.tariff.now.prices) c.args.option in
-    let whole : c.into-iter-value-iterator.result.rest ≡ c.args.values = cc in
+    let whole : c.into_iter-value-iterator.result.rest ≡ c.args.values = cc in
     subst (λ s. MatchOption c.loop-value.found (NoMember s) (CheapestOf (member s) prices)) whole
     (found_all _ _ _ _ c.in-None.ensures.steps.0 c.loop-value.invariant.2)

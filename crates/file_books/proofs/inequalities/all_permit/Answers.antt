@@ -4,13 +4,13 @@ use Rattle.file_books.specs.Inequalities.{breaks_some}
 use Rattle.file_books.proofs.RulesKept.{breaks_at, breaks_next}
 use Rattle.file_books.proofs.inequalities.all_permit.Goals as goal
 
-pub returns-then-not-permitted-by : goal.returns-then-not-permitted-by
-returns-then-not-permitted-by c =
-    sym (ap not (breaks_at _ _ _ _ c.args.rules.now c.loop-rule.rule-index c.loop-rule-test.true (not-false _ (sym c.if-not-permitted-by.ensures))))
+pub returns-then-not-permitted_by : goal.returns-then-not-permitted_by
+returns-then-not-permitted_by c =
+    sym (ap not (breaks_at _ _ _ _ c.args.rules.now c.loop-rule.rule-index c.loop-rule-test.true (not-false _ (sym c.if-not-permitted_by.ensures))))
 
 pub loop-rule-preserved : goal.loop-rule-preserved
 loop-rule-preserved c =
-    (omega arith, breaks_next _ _ _ _ c.args.rules.now c.loop-rule.rule-index c.loop-rule-test.true c.loop-rule.invariant.1 (not-true _ (sym c.if-not-permitted-by.ensures)))
+    (omega arith, breaks_next _ _ _ _ c.args.rules.now c.loop-rule.rule-index c.loop-rule-test.true c.loop-rule.invariant.1 (not-true _ (sym c.if-not-permitted_by.ensures)))
 
 pub returns : goal.returns
 returns c =

@@ -13,8 +13,8 @@ factors c =
 fits : (c : goal.After-from-2) → SFits w32 (c.args.coefficient *ℤ pos c.args.value)
 fits c = product_fits c.args.coefficient c.args.value c.ranges.coefficient (omega arith)
 
-pub overflow-mul-result : goal.overflow-mul-result
-overflow-mul-result c = subst (SFits w32) (sym (factors c)) (fits c)
+pub overflow_mul-result : goal.overflow_mul-result
+overflow_mul-result c = subst (SFits w32) (sym (factors c)) (fits c)
 
 pub returns : goal.returns
-returns c = to_z-of_z w32 _ (overflow-mul-result c) ∙ factors c
+returns c = to_z-of_z w32 _ (overflow_mul-result c) ∙ factors c

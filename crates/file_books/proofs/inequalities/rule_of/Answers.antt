@@ -23,16 +23,16 @@ pub returns-in-Inequality : goal.returns-in-Inequality
 returns-in-Inequality c =
     let file = c.args.file.now in
     let k = c.args.number in
-    let shown = subst (Shows file k) c.in-Inequality.is c.in-ok-record.ensures.reads.1 in
+    let shown = subst (Shows file k) c.in-Inequality.is c.in_ok-record.ensures.reads.1 in
     let bytes = c.in-Inequality.coefficients.now in
-    let p : SFits w16 c.short-at.result = search rules in
-    let q : SFits w16 c.short-at-in-Inequality.result = search rules in
-    let limit : SFits w32 c.long-at.result = search rules in
+    let p : SFits w16 c.short_at.result = search rules in
+    let q : SFits w16 c.short_at-in-Inequality.result = search rules in
+    let limit : SFits w32 c.long_at.result = search rules in
     record {
       letter = shown.0;
       option = c.from.ensures ∙ shown.1;
       other = c.from-in-Inequality.ensures ∙ shown.2;
-      p = to_z-of_z w16 _ p ∙ c.short-at.ensures ∙ ap (to_z w16) (first_pair file k bytes shown.3);
-      q = to_z-of_z w16 _ q ∙ c.short-at-in-Inequality.ensures ∙ ap (to_z w16) (second_pair file k bytes shown.3);
-      c = to_z-of_z w32 _ limit ∙ c.long-at.ensures ∙ ap (to_z w32) (bound file k bytes shown.3);
+      p = to_z-of_z w16 _ p ∙ c.short_at.ensures ∙ ap (to_z w16) (first_pair file k bytes shown.3);
+      q = to_z-of_z w16 _ q ∙ c.short_at-in-Inequality.ensures ∙ ap (to_z w16) (second_pair file k bytes shown.3);
+      c = to_z-of_z w32 _ limit ∙ c.long_at.ensures ∙ ap (to_z w32) (bound file k bytes shown.3);
     }

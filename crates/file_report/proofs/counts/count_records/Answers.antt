@@ -10,20 +10,20 @@ pub loop-number-init : goal.loop-number-init
 loop-number-init c = none_yet c.args.file.now
 
 -- so far a count is at most the number of records read
-pub overflow-add-counts : goal.overflow-add-counts
-overflow-add-counts c =
+pub overflow_add-counts : goal.overflow_add-counts
+overflow_add-counts c =
     omega (arith, c.loop-number.invariant.domains, count_before-le c.args.file.now o_letter c.loop-number.number)
 
-pub overflow-add-counts-in-Some-Row : goal.overflow-add-counts-in-Some-Row
-overflow-add-counts-in-Some-Row c =
+pub overflow_add-counts-in-Some-Row : goal.overflow_add-counts-in-Some-Row
+overflow_add-counts-in-Some-Row c =
     omega (arith, c.loop-number.invariant.rows, count_before-le c.args.file.now r_letter c.loop-number.number)
 
-pub overflow-add-counts-in-Some-Inequality : goal.overflow-add-counts-in-Some-Inequality
-overflow-add-counts-in-Some-Inequality c =
+pub overflow_add-counts-in-Some-Inequality : goal.overflow_add-counts-in-Some-Inequality
+overflow_add-counts-in-Some-Inequality c =
     omega (arith, c.loop-number.invariant.inequalities, count_before-le c.args.file.now l_letter c.loop-number.number)
 
-pub overflow-add-counts-in-Some-Price : goal.overflow-add-counts-in-Some-Price
-overflow-add-counts-in-Some-Price c =
+pub overflow_add-counts-in-Some-Price : goal.overflow_add-counts-in-Some-Price
+overflow_add-counts-in-Some-Price c =
     omega (arith, c.loop-number.invariant.prices, count_before-le c.args.file.now p_letter c.loop-number.number)
 
 pub loop-number-preserved : goal.loop-number-preserved

@@ -12,8 +12,8 @@ returns-in-2 c = ap unknown_at (sym c.in-2.is)
 pub returns-in-3 : goal.returns-in-3
 returns-in-3 c = ap unknown_at (sym c.in-3.is)
 
-pub returns-in-default : goal.returns-in-default
-returns-in-default c =
+pub returns-in_default : goal.returns-in_default
+returns-in_default c =
     let b = c.args.byte in
     let no_1 : eqb b 1 ≡ false = ne_eqb b 1 (λ e. omega arith) in
     let no_2 : eqb b 2 ≡ false = ne_eqb b 2 (λ e. omega arith) in

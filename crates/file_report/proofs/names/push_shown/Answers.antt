@@ -1,8 +1,8 @@
 use Rattle.std.proofs.Common.{append_assoc, rules}
 use Rattle.file_report.proofs.names.push_shown.Goals as goal
 
-pub returns-in-ok-push : goal.returns-in-ok-push
-returns-in-ok-push c = search (rules, append_assoc)
+pub returns-in_ok-push : goal.returns-in_ok-push
+returns-in_ok-push c = search (rules, append_assoc)
 
-pub returns-in-ok-push-2 : goal.returns-in-ok-push-2
-returns-in-ok-push-2 c = search (rules, append_assoc)
+pub returns-in_ok-push-2 : goal.returns-in_ok-push-2
+returns-in_ok-push-2 c = search (rules, append_assoc)

@@ -11,18 +11,18 @@ returns-in-Some c =
 pub loop-number-init : goal.loop-number-init
 loop-number-init c = (c.new-tally.ensures c.args.file.now, λ k lt. absurd (omega arith))
 
-pub returns-in-Some-record-fault : goal.returns-in-Some-record-fault
-returns-in-Some-record-fault c =
-    let told = first_by_records _ c.in-default.ensures _ _ c.loop-number.invariant.1 c.in-Some-record-fault.ensures in
+pub returns-in-Some-record_fault : goal.returns-in-Some-record_fault
+returns-in-Some-record_fault c =
+    let told = first_by_records _ c.in_default.ensures _ _ c.loop-number.invariant.1 c.in-Some-record_fault.ensures in
     record { accepts = refuses _ _ told; names = told; only = λ g other. one_first_fault _ _ g told other }
 
 pub loop-number-preserved : goal.loop-number-preserved
 loop-number-preserved c = (
   c.add.ensures,
-  below_more (SoundRecord c.args.file.now) _ c.loop-number.invariant.1 c.in-default-record-fault.ensures,
+  below_more (SoundRecord c.args.file.now) _ c.loop-number.invariant.1 c.in_default-record_fault.ensures,
 )
 
 pub returns : goal.returns
 returns c =
-    let sound = sound_by_records _ c.in-default.ensures (λ k lt. c.loop-number.invariant.1 k (omega (arith, lt, c.loop-number-test.false))) in
+    let sound = sound_by_records _ c.in_default.ensures (λ k lt. c.loop-number.invariant.1 k (omega (arith, lt, c.loop-number-test.false))) in
     record { accepts = (λ _. sound, λ _. refl); names = tt; only = tt }

@@ -2,5 +2,5 @@ use Rattle.record_file.proofs.RuleOrder.{SoundBelow}
 use Rattle.record_file.proofs.checking.record_fault.Given as goal
 
 -- the rules so far are not broken
-abbrev pub invariant-loop-rule-number : goal.invariant-loop-rule-number
-invariant-loop-rule-number l = SoundBelow l.file l.number l.rule-number
+abbrev pub invariant-loop-rule_number : goal.invariant-loop-rule_number
+invariant-loop-rule_number l = SoundBelow l.file l.number l.rule_number

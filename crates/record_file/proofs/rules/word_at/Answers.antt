@@ -5,4 +5,4 @@ use Rattle.record_file.proofs.rules.word_at.Goals as goal
 
 pub returns : goal.returns
 returns c =
-    c.word-of.ensures ∙ ap word_in c.part-at.ensures ∙ part-word c.args.file.now c.args.number c.args.at 4 (omega arith)
+    c.word_of.ensures ∙ ap word_in c.part_at.ensures ∙ part-word c.args.file.now c.args.number c.args.at 4 (omega arith)

@@ -14,8 +14,8 @@ returns-in-Row c =
     let file = c.args.file.now in
     let k = c.args.number in
     let shown = subst (Shows file k) c.in-Row.is c.in-Some.ensures.reads.1 in
-    let mask : c.from-mask-allowed.result.mask ≡ word file k 4 =
-    c.from-mask-allowed.ensures ∙ c.word-of.ensures ∙ ap word_in shown.4 ∙ part-word file k 4 4 (omega arith) in
+    let mask : c.from_mask-allowed.result.mask ≡ word file k 4 =
+    c.from_mask-allowed.ensures ∙ c.word_of.ensures ∙ ap word_in shown.4 ∙ part-word file k 4 4 (omega arith) in
     let clear : (b : ℕ) → b < most_values → member c.difference-forbidden.result b ≡ not (has (word file k 4) b) =
     λ b small. c.difference-forbidden.ensures b ∙ ap (λ m. has 4294967295 b && not (has m b)) mask ∙ (let all : has (2 ^ 32 - 1) b ≡ ltb b 32 = has_first 32 b in grind (arith, nat_tests)) in
     λ before.

@@ -8,7 +8,7 @@ use Rattle.record_file.proofs.SoundRecords.{few_values}
 use Rattle.file_books.proofs.SoundFiles.{sound_record, few_options, some_option, option_small}
 use Rattle.file_books.proofs.GivenValues.{GivesValue, values_kept, values_added, decides_known}
 use Rattle.file_books.proofs.domains.Domains.read.Goals as goal
-use Rattle.file_books.proofs.domains.Domains.read.Goals.{in-Some, in-default}
+use Rattle.file_books.proofs.domains.Domains.read.Goals.{in-Some, in_default}
 
 pub loop-number-init : goal.loop-number-init
 loop-number-init c = (
@@ -16,31 +16,31 @@ loop-number-init c = (
   λ i v. decides_none (GivesValue c.args.file.now i v) _ (no_block_empty i v),
 )
 
-pub overflow-add-count : goal.overflow-add-count
-overflow-add-count c = omega (arith, c.loop-number.invariant.0, count_before-le c.args.file.now o_letter c.loop-number.number)
+pub overflow_add-count : goal.overflow_add-count
+overflow_add-count c = omega (arith, c.loop-number.invariant.0, count_before-le c.args.file.now o_letter c.loop-number.number)
 
 pub loop-number-preserved : goal.loop-number-preserved
 loop-number-preserved c =
     let file = c.args.file.now in
     let k = c.loop-number.number in
     let there : k < whole_records file = c.loop-number-test.true in
-    elim c.match-given-by.branch [
+    elim c.match-given_by.branch [
       | in-Some w ↦
           let given = w.in-Some.ensures in
           rw (w.count-is, w.sets-is) (
             ap (λ n. n + 1) c.loop-number.invariant.0 ∙ sym (count_before_in file o_letter k given.0),
-            values_added file k _ c.loop-number.invariant.1 _ _ given (option_small c.requires k there given.0) (few_values there (sound_record c.requires k) given.0) w.with-values-sets.ensures,
+            values_added file k _ c.loop-number.invariant.1 _ _ given (option_small c.requires k there given.0) (few_values there (sound_record c.requires k) given.0) w.with_values-sets.ensures,
           )
-      | in-default w ↦
-          let other = w.in-default.ensures in
+      | in_default w ↦
+          let other = w.in_default.ensures in
           rw (w.count-is, w.sets-is) (
             c.loop-number.invariant.0 ∙ sym (count_before_out file o_letter k other),
             values_kept file k _ c.loop-number.invariant.1 other,
           )
     ]
 
-pub invariant-of-result : goal.invariant-of-result
-invariant-of-result c =
+pub invariant_of-result : goal.invariant_of-result
+invariant_of-result c =
     let file = c.args.file.now in
     let end : c.loop-number.number ≡ whole_records file = omega arith in
     let all = c.loop-number.invariant.0 ∙ ap (count_before file o_letter) end in

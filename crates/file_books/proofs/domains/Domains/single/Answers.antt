@@ -8,7 +8,7 @@ returns c = record {
   count = refl;
   sets = λ i v.
       let none = no_block_empty i v in
-      let at = c.with-values.ensures i v in
+      let at = c.with_values.ensures i v in
       let zero = c.first.ensures v in
       grind (arith, nat_tests);
 }

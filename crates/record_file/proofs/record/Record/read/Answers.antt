@@ -3,8 +3,8 @@ use Rattle.record_file.specs.Rules.{HasUnknownLetter}
 use Rattle.record_file.specs.declared.fault.Rule.TheVariants.{UnknownLetter}
 use Rattle.record_file.proofs.record.Record.read.Goals as goal
 
-pub returns-in-default : goal.returns-in-default
-returns-in-default c =
+pub returns-in_default : goal.returns-in_default
+returns-in_default c =
     let unknown : HasUnknownLetter c.args.file.now c.args.number = search rules in
     record {
       reads = inr unknown;

@@ -22,8 +22,8 @@ insert-requires c =
     let other = other_known c.requires.there c.requires.sound c.requires.before.domains (inl shown.0) in
     record { option = omega arith; value = omega arith; other = omega arith }
 
-pub overflow-add-self : goal.overflow-add-self
-overflow-add-self c = omega (arith, c.requires.before.inequalities, count_before-le c.args.file.now l_letter c.args.number, c.ranges.number)
+pub overflow_add-self : goal.overflow_add-self
+overflow_add-self c = omega (arith, c.requires.before.inequalities, count_before-le c.args.file.now l_letter c.args.number, c.ranges.number)
 
 pub insert-requires-in-Price : goal.insert-requires-in-Price
 insert-requires-in-Price c =
@@ -85,6 +85,6 @@ returns-in-Price c =
       inequalities = inequalities_kept _ _ before (λ e. omega (arith, shown.0));
     }
 
-pub returns-in-default : goal.returns-in-default
-returns-in-default c =
-    ⊎_elim (λ past. absurd (omega (arith, c.requires.there))) (λ unknown. absurd (letter_known c.requires.there c.requires.sound unknown)) c.in-default.ensures.reads
+pub returns-in_default : goal.returns-in_default
+returns-in_default c =
+    ⊎_elim (λ past. absurd (omega (arith, c.requires.there))) (λ unknown. absurd (letter_known c.requires.there c.requires.sound unknown)) c.in_default.ensures.reads

@@ -12,5 +12,5 @@ returns g c =
     λ v. c.with-value.ensures v ∙ ap (λ t. t || (eqb v c.args.value && ltb v most_values)) (has_none v) in
     record {
       below = refl;
-      loses = one_more_barred _ (g.met.B.Book.lawful book.below).few_options book.barred _ _ _ _ c.requires only c.with-values-self.ensures;
+      loses = one_more_barred _ (g.met.B.Book.lawful book.below).few_options book.barred _ _ _ _ c.requires only c.with_values-self.ensures;
     }

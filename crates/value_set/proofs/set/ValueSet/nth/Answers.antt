@@ -8,7 +8,7 @@ loop-value-init c = (tt, tt, omega arith, passed_none _, passed_all _ _ _ (passe
 pub returns-then-passed-index : goal.returns-then-passed-index
 returns-then-passed-index c =
     let step = c.in-Some.ensures.steps in
-    let whole : c.into-iter-value-iterator.result.rest ≡ c.args.self = cc in
+    let whole : c.into_iter-value-iterator.result.rest ≡ c.args.self = cc in
     rw (whole, c.if-passed-index.true) at (passed_nth _ _ _ _ c.loop-value.invariant.3 step.0 step.1)
 
 pub loop-value-preserved : goal.loop-value-preserved

@@ -4,6 +4,6 @@ use Rattle.value_set.proofs.set.ValueSet.split_least.Goals as goal
 
 pub returns : goal.returns
 returns c =
-    let found = c.in-ok-value.ensures in
+    let found = c.in_ok-value.ensures in
     let others = c.without.ensures in
     ((found.0, found.1, others), omega (arith, size-without _ _ _ found.0 found.1.there others))
