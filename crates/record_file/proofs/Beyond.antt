@@ -1,5 +1,5 @@
 -- A set that is not within the first m values has a value from m on. Assumes nothing.
-use Rattle.std.proofs.Common.{◌≡◌, ℕ, zero, suc, ◌^◌, ◌<◌, ◌≤◌, Bool, true, false, ◌&&◌, T, ltb, leb, ◌⊎◌, refl, ap, ◌∙◌, ap₂, inl, inr, ⊎_elim, arith, lt-ltb, leb-false, leb-true}
+use Rattle.std.proofs.Common.{◌≡◌, ℕ, zero, suc, ◌^◌, ◌<◌, ◌≤◌, Bool, true, false, ◌&&◌, T, ltb, leb, ◌⊎◌, ap, ◌∙◌, ap₂, inl, inr, ⊎_elim, arith, lt-ltb, leb-false, leb-true}
 use borrow.Author.Tests.{clash}
 use Rattle.std.proofs.lemmas.Bool.{and_parts, cases_Bool, cases_order}
 use Rattle.value_set.specs.declared.set.ValueSet.{ValueSet}

@@ -1,5 +1,5 @@
 -- How many records before record k have a letter, and whether some record before it is so. Assumes nothing.
-use Rattle.std.proofs.Common.{◌≡◌, ℕ, zero, suc, ◌+◌, ◌<◌, ◌≤◌, Bool, true, false, cond, ◌||◌, eqb, ◌⊎◌, List, Decides, refl, ap, ◌∙◌, inl, inr, ⊎_elim, add-one, arith, eq-eqb, ne_eqb}
+use Rattle.std.proofs.Common.{◌≡◌, ℕ, zero, suc, ◌+◌, ◌≤◌, Bool, false, cond, ◌||◌, eqb, ◌⊎◌, List, Decides, refl, ap, inl, inr, ⊎_elim, add-one, arith, eq-eqb, ne_eqb}
 use borrow.Author.Tests.{both_ways}
 use Rattle.std.proofs.lemmas.Bool.{cases_Bool, cases_order}
 use Rattle.std.proofs.lemmas.Bool.Decides.{Decides-like, Decides-or}

@@ -1,5 +1,5 @@
 -- The files worked by hand are as the rules have it. Assumes nothing.
-use Rattle.std.proofs.Common.{◌≡◌, ℕ, zero, suc, ◌+◌, ◌-◌, ◌<◌, ◌≤◌, Bool, true, false, ◌&&◌, ◌||◌, T, eqb, leb, ◌⊎◌, List, length, get_or, sym, refl, ap, ◌∙◌, subst, inl, inr, ⊎_elim, arith, get_or-drop, eqb-true, leb-true}
+use Rattle.std.proofs.Common.{◌≡◌, ℕ, zero, suc, ◌+◌, ◌-◌, ◌<◌, ◌≤◌, T, eqb, leb, ◌⊎◌, List, length, get_or, sym, refl, ap, ◌∙◌, subst, inl, inr, ⊎_elim, arith, get_or-drop, eqb-true, leb-true}
 use Rattle.std.proofs.lemmas.Bool.{cases_Bool}
 use Rattle.std.proofs.str.Laws.{order}
 use Rattle.value_set.specs.Members.{has}
@@ -9,10 +9,10 @@ use Rattle.record_file.specs.declared.fault.Rule.{Rule}
 use Rattle.record_file.specs.declared.fault.Rule.TheVariants.{TooLong, PartialRecord, NoRecord, UnknownLetter}
 use Rattle.record_file.specs.declared.fault.Rule.TheVariants.{MisplacedOption, ValueCount, UnknownReference}
 use Rattle.record_file.specs.declared.fault.Rule.TheVariants.{MaskBeyondValues, ReservedByte, Duplicate, TooManyInequalities}
-use Rattle.record_file.specs.Layout.{whole_records, byte, HasLetter, o_letter, r_letter, p_letter, count_before, Gives, KnownOption, KnownValue}
+use Rattle.record_file.specs.Layout.{byte, HasLetter, o_letter, r_letter, count_before, Gives}
 use Rattle.record_file.specs.Rules.{IsTooLong, HasPartialRecord, HasUnknownLetter, IsMisplacedOption, HasWrongCount, HasUnknownAt}
 use Rattle.record_file.specs.Rules.{HasMaskBeyondValues, HasNonzeroAt, Repeated, HasTooManyInequalities, unused}
-use Rattle.record_file.specs.Faults.{number_of, layer_of, turn_of, fault_at, Breaks, Sooner, FirstFault, FirstInRecord, Sound, SoundFile, SoundRecord}
+use Rattle.record_file.specs.Faults.{number_of, layer_of, turn_of, fault_at, Breaks, Sooner, FirstFault, Sound, SoundFile, SoundRecord}
 use Rattle.record_file.specs.WorkedExamples.{masked, examples, EachHolds}
 use Rattle.record_file.proofs.Counting.{count_before_none, count_before_in}
 use Rattle.record_file.proofs.FirstFaults.{sort_of, sound_by_records, first_by_records}

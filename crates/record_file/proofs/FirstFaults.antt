@@ -10,7 +10,7 @@ use Rattle.record_file.specs.declared.fault.Rule.TheVariants.{TooLong, PartialRe
 use Rattle.record_file.specs.declared.fault.Rule.TheVariants.{MisplacedOption, ValueCount, UnknownReference}
 use Rattle.record_file.specs.declared.fault.Rule.TheVariants.{MaskBeyondValues, ReservedByte, Duplicate, TooManyInequalities}
 use Rattle.record_file.specs.Layout.{whole_records}
-use Rattle.record_file.specs.Faults.{number_of, layer_of, OnRecord, turn_of, FirstByte, Breaks, Sooner, FirstFault, FirstInRecord}
+use Rattle.record_file.specs.Faults.{number_of, layer_of, OnRecord, turn_of, FirstByte, Breaks, FirstFault, FirstInRecord}
 use Rattle.record_file.specs.Faults.{Sound, SoundFile, SoundRecord}
 use Rattle.record_file.proofs.RuleOrder.{same_rule}
 

@@ -1,5 +1,5 @@
 -- What is marked where nothing was marked, and past the options that can be marked. Assumes nothing.
-use Rattle.std.proofs.Common.{◌≡◌, ℕ, ◌≤◌, false, List, length, sym, ap, ◌∙◌}
+use Rattle.std.proofs.Common.{◌≡◌, ℕ, ◌≤◌, false, length, sym, ap, ◌∙◌}
 use Rattle.std.proofs.lemmas.List.{get_or_past}
 use Rattle.value_set.specs.Members.{member}
 use Rattle.value_set.proofs.Bits.{has_none}

@@ -1,7 +1,7 @@
 -- What is kept of the records so far, after one record more that is not at fault. Assumes nothing.
-use Rattle.std.proofs.Common.{◌≡◌, ℕ, ◌+◌, ◌<◌, ◌≤◌, Bool, true, ◌&&◌, ◌||◌, eqb, ◌⊎◌, List, get_or, Decides, sym, refl, ap, ◌∙◌, subst, inl, inr, ⊎_elim, arith, below_more}
+use Rattle.std.proofs.Common.{◌≡◌, ℕ, ◌+◌, ◌<◌, ◌≤◌, ◌&&◌, eqb, List, get_or, Decides, sym, ap, ◌∙◌, subst, ⊎_elim, arith, below_more}
 use Rattle.std.proofs.lemmas.Bool.{cases_order}
-use Rattle.std.proofs.lemmas.Bool.Decides.{Decides-eqb, Decides-and, Decides-like, Decides-at}
+use Rattle.std.proofs.lemmas.Bool.Decides.{Decides-eqb, Decides-and, Decides-like}
 use Rattle.record_file.specs.declared.domains.Domains.{Domains}
 use Rattle.record_file.specs.declared.tally.Tally.{Tally}
 use Rattle.record_file.specs.Layout.{whole_records, byte, HasLetter, o_letter, r_letter, l_letter, p_letter, count_before}
@@ -9,7 +9,7 @@ use Rattle.record_file.specs.Marks.{marked, row_marked}
 use Rattle.record_file.specs.Rules.{RowAt, RowBefore, PriceAt, PriceBefore}
 use Rattle.record_file.specs.Faults.{SoundRecord}
 use Rattle.record_file.specs.Tallies.{DomainsBefore, TallyBefore}
-use Rattle.record_file.proofs.Counting.{count_before_in, count_before_out, decides_one_more, decides_no_more}
+use Rattle.record_file.proofs.Counting.{count_before_in, count_before_out, decides_no_more}
 use Rattle.record_file.proofs.SoundRecords.{all_options, next_option, few_values}
 
 module _ (file : List ℕ) (k : ℕ) where

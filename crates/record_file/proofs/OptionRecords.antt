@@ -1,9 +1,9 @@
 -- What the options kept so far say of the O records before record k. Assumes nothing.
-use Rattle.std.proofs.Common.{◌≡◌, ℕ, ◌+◌, ◌<◌, ◌≤◌, Bool, true, not, ltb, leb, ◌⊎◌, List, get_or, Decides, sym, ap, ◌∙◌, subst, inl, inr, ⊎_elim, arith, le-leb, leb-true}
+use Rattle.std.proofs.Common.{◌≡◌, ℕ, ◌<◌, Bool, not, ltb, leb, List, get_or, Decides, sym, ap, ◌∙◌, ⊎_elim, arith, le-leb, leb-true}
 use Rattle.std.proofs.lemmas.Bool.Decides.{Decides-ltb, Decides-at, Decides-like, Decides-not}
 use Rattle.std.proofs.str.Laws.{order}
 use Rattle.record_file.specs.declared.domains.Domains.{Domains}
-use Rattle.record_file.specs.Layout.{byte, HasLetter, o_letter, Gives, KnownOption, KnownValue}
+use Rattle.record_file.specs.Layout.{HasLetter, o_letter, Gives, KnownOption, KnownValue}
 use Rattle.record_file.specs.Tallies.{DomainsBefore}
 
 -- a test of Q is one of P and Q where P is known

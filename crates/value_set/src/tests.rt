@@ -33,7 +33,7 @@ fn ascending(rt: HostRuntime) -> Result<(), Fail> {
     let values: Vec<u8> = ValueSet::from_mask(0b1010_0100)
         .values()
         .collect(rt.alloc())?;
-    assert!(rt; values.as_slice() == [2, 5, 7]);
+    assert!(rt; values.as_slice() == [2, 5, 7].as_slice());
     Ok(())
 }
 

@@ -1,4 +1,4 @@
-use Rattle.std.proofs.Common.{leb, get_or, sym, ap, ◌∙◌, subst, arith, rules}
+use Rattle.std.proofs.Common.{leb, get_or, arith, rules}
 use Rattle.std.proofs.lemmas.Bool.Decides.{Decides-at}
 use Rattle.record_file.specs.Layout.{byte}
 use Rattle.record_file.proofs.OptionRecords.{decides_beside, decides_unknown_value}

@@ -1,4 +1,3 @@
-use Rattle.std.proofs.Common.{refl}
 use Rattle.std.proofs.lemmas.Bool.Decides.{not_from_Decides}
 use Rattle.record_file.proofs.FirstBytes.{first_is_2, first_is_3}
 use Rattle.record_file.proofs.rules.unknown_reference.Goals as goal

@@ -1,4 +1,4 @@
-use Rattle.std.proofs.Common.{◌≡◌, false, replicate}
+use Rattle.std.proofs.Common.{◌≡◌, false}
 use Rattle.value_set.specs.Members.{member}
 use Rattle.value_set.proofs.Bits.{has_none}
 use Rattle.value_set.specs.Blocks.{no_values}
