@@ -10,7 +10,7 @@ use Rattle.value_set.specs.declared.block.Block.{Block}
 use Rattle.value_set.specs.declared.set.ValueSet.{ValueSet}
 use Rattle.value_set.proofs.Bits.{has_none}
 use Rattle.value_set.proofs.Blocks.{no_block_empty}
-use Rattle.record_file.specs.Layout.{byte, word, HasLetter, r_letter, SomeBefore}
+use Rattle.record_file.specs.Layout.{byte, word, HasLetter, r_letter}
 use Rattle.record_file.proofs.Counting.{decides_one_more, decides_no_more}
 use Rattle.record_file.proofs.OneMore.{decides_row}
 use Rattle.file_books.specs.declared.conflicts.Conflicts.{Conflicts}

@@ -1,5 +1,5 @@
 -- A coefficient times a value fits 32 bits. Assumes nothing.
-use Rattle.std.proofs.Common.{◌≡◌, ℕ, zero, suc, ◌*◌, ◌^◌, ◌<◌, ◌≤◌, ℤ, pos, negsuc, ◌*ℤ◌, neg_ℤ, arith, w16, w32, SFits}
+use Rattle.std.proofs.Common.{ℕ, zero, suc, ◌*◌, ◌^◌, ◌<◌, ◌≤◌, ℤ, pos, negsuc, ◌*ℤ◌, neg_ℤ, arith, w16, w32, SFits}
 use lib.Signed.{mag}
 use Rattle.std.proofs.lemmas.Nat.{mul-le}
 

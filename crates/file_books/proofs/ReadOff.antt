@@ -1,14 +1,14 @@
 -- A book by the options and the relation that were read from a file. Assumes nothing.
-use Rattle.std.proofs.Common.{◌≡◌, ℕ, ◌<◌, ◌≤◌, Bool, true, false, ◌&&◌, eqb, ltb, List, Decides, refl, arith, lt-ltb, ne_eqb}
+use Rattle.std.proofs.Common.{◌≡◌, ℕ, ◌<◌, Bool, true, false, ◌&&◌, eqb, ltb, List, Decides, refl, arith, lt-ltb, ne_eqb}
 use Rattle.std.proofs.lemmas.Bool.{and_parts}
 use Rattle.std.proofs.lemmas.Bool.Decides.{Decides-and, Decides-at, Decides-like, Decides-ltb}
 use Rattle.value_set.specs.Blocks.{side_of}
-use Rattle.value_set.specs.Limits.{most_options, most_values}
+use Rattle.value_set.specs.Limits.{most_values}
 use Rattle.value_set.specs.Members.{member}
 use Rattle.record_file.specs.Faults.{Sound}
 use Rattle.record_file.specs.Layout.{whole_records, count_before, o_letter}
 use Rattle.file_books.specs.declared.domains.Domains.{Domains}
-use Rattle.rule_book.specs.Books.{Meaning, in_set, in_row}
+use Rattle.rule_book.specs.Books.{in_set, in_row}
 use Rattle.file_books.specs.Domains.{HasValue}
 use Rattle.file_books.specs.Files.{file_meaning, ReadOff}
 use Rattle.file_books.specs.Relations.{Pairs, Forbidding, AllowsBy, Unforbidden}

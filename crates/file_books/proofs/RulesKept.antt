@@ -1,10 +1,10 @@
 -- Which values break some rule of a list, and the rules after one record more. Assumes nothing.
-use Rattle.std.proofs.Common.{◌≡◌, ℕ, zero, suc, ◌+◌, ◌<◌, ◌≤◌, Bool, true, false, ◌&&◌, ◌||◌, T, eqb, List, [], ◌∷◌, ◌++◌, length, get_or, take, set, replicate, ℤ, ◌<ℤ◌, Some, None, Decides, Option, sym, refl, ap, ◌∙◌, subst, ap₂, subst₂, ⊎_elim, arith}
+use Rattle.std.proofs.Common.{◌≡◌, ℕ, zero, suc, ◌+◌, ◌<◌, Bool, true, false, ◌||◌, T, List, [], ◌∷◌, ◌++◌, length, get_or, take, set, replicate, ℤ, ◌<ℤ◌, Some, None, Decides, Option, sym, refl, ap, ◌∙◌, subst, ap₂, subst₂, arith}
 use lib.Signed.{lt_z}
 use Rattle.std.proofs.lemmas.List.{get_or-set_other, take_more}
 use Rattle.std.proofs.lemmas.Bool.Decides.{nat_tests, Decides-and, Decides-at, Decides-eqb, Decides-like}
 use Rattle.value_set.proofs.Blocks.{holds_throughout}
-use Rattle.record_file.specs.Layout.{byte, HasLetter, l_letter, SomeBefore}
+use Rattle.record_file.specs.Layout.{HasLetter, l_letter}
 use Rattle.record_file.proofs.Counting.{count_before_none, count_before_in, count_before_out}
 use Rattle.record_file.proofs.Counting.{decides_none, decides_one_more, decides_no_more}
 use Rattle.file_books.specs.declared.inequalities.Inequality.{Inequality}

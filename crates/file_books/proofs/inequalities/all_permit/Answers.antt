@@ -1,4 +1,4 @@
-use Rattle.std.proofs.Common.{◌≡◌, not, sym, ap, ◌∙◌, arith, take_all}
+use Rattle.std.proofs.Common.{not, sym, ap, ◌∙◌, arith, take_all}
 use Rattle.std.proofs.lemmas.Bool.{not-true, not-false}
 use Rattle.file_books.specs.Inequalities.{breaks_some}
 use Rattle.file_books.proofs.RulesKept.{breaks_at, breaks_next}

@@ -1,4 +1,4 @@
-use Rattle.std.proofs.Common.{◌≡◌, pos, ◌*ℤ◌, sym, ◌∙◌, subst, ap₂, arith, w16, w32, SFits, to_z, of_z}
+use Rattle.std.proofs.Common.{◌≡◌, pos, ◌*ℤ◌, sym, ◌∙◌, subst, ap₂, arith, w32, SFits, to_z, of_z}
 use Rattle.std.proofs.lemmas.Int.{ints, to_z-of_z}
 use Rattle.file_books.proofs.Products.{product_fits}
 use Rattle.file_books.proofs.inequalities.product.Goals as goal

@@ -1,4 +1,4 @@
-use Rattle.std.proofs.Common.{◌≡◌, ◌+◌, ◌*◌, false, not, ap, ◌∙◌}
+use Rattle.std.proofs.Common.{◌≡◌, ◌+◌, ◌*◌, false, not, ap}
 use Rattle.value_set.specs.Blocks.{no_block, side_of}
 use Rattle.value_set.specs.Limits.{most_values}
 use Rattle.value_set.specs.Members.{member}

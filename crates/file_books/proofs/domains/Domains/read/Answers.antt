@@ -44,7 +44,10 @@ invariant_of-result c =
     let file = c.args.file.now in
     let end : c.loop-number.number ≡ whole_records file = omega arith in
     let all = c.loop-number.invariant.0 ∙ ap (count_before file o_letter) end in
-    (omega (arith, all, some_option c.requires), (omega (arith, all, few_options c.requires (whole_records file) (omega arith)), tt))
+    record {
+      some = omega (arith, all, some_option c.requires);
+      few = omega (arith, all, few_options c.requires (whole_records file) (omega arith));
+    }
 
 pub returns : goal.returns
 returns c =
