@@ -1,1 +1,6 @@
+pub mod Groupings
+pub mod EachOnce
+pub mod Choosing
+pub mod BlockWeights
+pub mod CountWeights
 pub mod PriceRecords

@@ -5,11 +5,7 @@ pub mod Words
 pub mod Offers
 pub mod Tariffs
 pub mod Count
-pub mod CountWeights
-pub mod BlockWeights
-pub mod Choosing
-pub mod EachOnceLemmas
-pub mod Groupings
 pub mod Limited
 pub mod WordsLemmas
+pub mod CountLaws
 pub mod OffersLemmas

@@ -1,8 +1,14 @@
--- The sides of the empty block, and the product of the numbers of values of a block's sides. Assumes nothing.
-use Rattle.std.proofs.Common.{◌≡◌, ℕ, zero, suc, ◌*◌, ◌^◌, ◌<◌, ◌≤◌, false, get_or, replicate, sym, refl, ap, ◌∙◌, ap₂, ⊎_elim, le_trans, le_of_eq, mul-zero, zero-mul, arith, pow_mono}
+-- The sides of the empty block, what `==` of blocks tells, and the product of the numbers of values of a block's sides.
+-- Assumes nothing.
+use Rattle.std.proofs.Common.{nat_eq, Decides, List, ◌≡◌, ℕ, zero, suc, ◌*◌, ◌^◌, ◌<◌, ◌≤◌, false, get_or, replicate, sym, refl, ap, ◌∙◌, ap₂, ⊎_elim, le_trans, le_of_eq, mul-zero, zero-mul, arith, pow_mono}
 use Rattle.std.proofs.lemmas.Nat.{mul-le, pow-add}
 use Rattle.std.proofs.lemmas.Bool.{cases_eq}
+use Rattle.std.specs.Cmp.Lexicographic.{pointwise}
+use Rattle.std.specs.Ordering.{on}
+use Rattle.std.proofs.lemmas.Bool.Decides.{Decides-eqb}
+use Rattle.std.proofs.lemmas.Slice.Eq.{slice_eq-Decides}
 use Rattle.value_set.specs.declared.block.Block.{Block}
+use Rattle.value_set.specs.declared.set.ValueSet.{ValueSet}
 use Rattle.value_set.specs.Blocks.{block_size, no_block, no_values, side_of}
 use Rattle.value_set.specs.Limits.{most_options}
 use Rattle.value_set.specs.Members.{member, size, NoMember}
@@ -17,6 +23,16 @@ holds_throughout P (suc n) x d (suc i) here past = holds_throughout P n x d i he
 
 pub no_block_empty : (i v : ℕ) → member (side_of no_block i) v ≡ false
 no_block_empty i v = holds_throughout (λ s. member s v ≡ false) most_options no_values no_values i (has_none v) (has_none v)
+
+-- sets are compared by their masks, and are the same if those are
+sets_same : (s t : ValueSet) → Decides (nat_eq s.mask t.mask) (s ≡ t)
+sets_same s t =
+    let h : Decides (nat_eq s.mask t.mask) (s.mask ≡ t.mask) = Decides-eqb s.mask t.mask in
+    (λ e. ap (λ m. record { mask = m }) (h.0 e), λ e. h.1 (ap (λ (u : ValueSet). u.mask) e))
+
+-- what `==` of two blocks computes tells whether their sides are the same; a caller of `!=` cites this
+pub blocks_same : (a b : List ValueSet) → Decides (pointwise (on (λ (s : ValueSet). s.mask) nat_eq) a b) (a ≡ b)
+blocks_same a b = slice_eq-Decides sets_same a b _ refl
 
 -- a side has at most 32 values, which is 2 to the power of 5
 pub block_size-le : (b : Block) (n : ℕ) → block_size b n ≤ 2 ^ (n * 5)
