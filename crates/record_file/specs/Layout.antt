@@ -1,5 +1,6 @@
 -- Where a record's numbers stand in the bytes of a file, and what the records before it give. Assumes nothing.
-use Rattle.std.specs.Prelude.{◌≡◌, ℕ, zero, suc, ◌+◌, ◌*◌, ◌/◌, ◌<◌, cond, List, length, take, drop, ◌==◌, slice_index}
+use Rattle.std.specs.Prelude.{◌≡◌, ℕ, zero, suc, ◌+◌, ◌*◌, ◌/◌, ◌<◌, cond, List, length, take}
+use Rattle.std.specs.Prelude.{drop, ◌==◌, slice_index}
 
 -- the limits of the format
 abbrev pub record_length : ℕ

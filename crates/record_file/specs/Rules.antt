@@ -1,6 +1,7 @@
 -- The rules of the record file, as what it is to break each of them. A rule on a record speaks of record k of the file,
 -- and one that can be broken at several bytes of byte b. Assumes nothing.
-use Rattle.std.specs.Prelude.{◌≡◌, ℕ, ◌%◌, ◌<◌, ◌≤◌, Bool, ◌&&◌, ◌||◌, T, ◌⊎◌, List, length, ◌==◌, ◌≢◌, nat_le}
+use Rattle.std.specs.Prelude.{◌≡◌, ℕ, ◌%◌, ◌<◌, ◌≤◌, Bool, ◌&&◌, ◌||◌, T, ◌⊎◌}
+use Rattle.std.specs.Prelude.{List, length, ◌==◌, ◌≢◌, nat_le}
 use Rattle.record_file.specs.Layout.{record_length, longest_file, most_inequalities}
 use Rattle.record_file.specs.Layout.{byte, word, HasLetter, o_letter, r_letter, l_letter, p_letter, count_before}
 use Rattle.record_file.specs.Layout.{SomeBefore, Gives, KnownOption, KnownValue}

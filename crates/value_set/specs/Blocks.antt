@@ -1,5 +1,6 @@
 -- The sides of a block, the configurations that lie in it, and its size. Assumes nothing.
-use Rattle.std.specs.Prelude.{◌≡◌, ℕ, zero, suc, ◌*◌, ◌<◌, ◌≤◌, true, List, length, replicate, slice_index, slice_index_or}
+use Rattle.std.specs.Prelude.{◌≡◌, ℕ, zero, suc, ◌*◌, ◌<◌, ◌≤◌, true, List, length, replicate}
+use Rattle.std.specs.Prelude.{slice_index, slice_index_or}
 use Rattle.value_set.specs.declared.block.Block.{Block}
 use Rattle.value_set.specs.declared.set.ValueSet.{ValueSet}
 use Rattle.value_set.specs.Limits.{most_options}

@@ -1,5 +1,6 @@
 // The operations on masks that sets are made of. Only here are the bits of a mask looked at.
-ghost use Rattle.std.specs.Prelude.{◌≡◌, ℕ, ◌<◌, ◌≤◌, true, false, not, ◌&&◌, ◌||◌, Decides, MatchOption, ◌==◌, nat_lt};
+ghost use Rattle.std.specs.Prelude.{◌≡◌, ℕ, ◌<◌, ◌≤◌, true, false, not, ◌&&◌, ◌||◌};
+ghost use Rattle.std.specs.Prelude.{Decides, MatchOption, ◌==◌, nat_lt};
 ghost use Rattle.value_set.specs.Limits.{most_values};
 ghost use Rattle.value_set.specs.Members.{has, count_below, Least};
 
