@@ -1,3 +1,4 @@
 pub mod Limits
 pub mod Members
 pub mod Blocks
+pub mod Places

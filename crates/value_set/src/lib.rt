@@ -4,10 +4,12 @@
 
 mod block;
 mod masks;
+mod places;
 mod set;
 mod values;
 
 pub use block::{Block, OPTIONS};
+pub use places::{PLACES, place_of};
 pub use set::{VALUES, ValueSet};
 pub use values::Values;
 

@@ -1,4 +1,5 @@
 use crate::block::{Block, OPTIONS};
+use crate::places::{PLACES, place_of};
 use crate::set::ValueSet;
 use std::test::Fail;
 
@@ -51,4 +52,14 @@ fn blocks(rt: HostRuntime) {
         Block::new([ValueSet::first(32); OPTIONS]).size(20),
         1 << 60
     );
+}
+
+#[test]
+fn places(rt: HostRuntime) {
+    assert_eq!(rt; place_of(0, 0), Some(0));
+    assert_eq!(rt; place_of(1, 0), Some(32));
+    assert_eq!(rt; place_of(11, 31), Some(PLACES - 1));
+    assert_eq!(rt; place_of(12, 0), None);
+    assert_eq!(rt; place_of(0, 32), None);
+    assert_eq!(rt; place_of(usize::MAX, 255), None);
 }
