@@ -1,15 +1,17 @@
 -- The sides of the empty block, what `==` of blocks tells, and the product of the numbers of values of a block's sides.
 -- Assumes nothing.
-use Rattle.std.proofs.Common.{nat_eq, Decides, List, ◌≡◌, ℕ, zero, suc, ◌*◌, ◌^◌, ◌<◌, ◌≤◌, false, get_or, replicate, sym, refl, ap, ◌∙◌, ap₂, ⊎_elim, le_trans, le_of_eq, mul-zero, zero-mul, arith, pow_mono}
+use Rattle.std.proofs.Common.{nat_eq, ◌+◌, drop, [], ◌∷◌, Bool, Decides, IsTrue, ◌↔◌, EachIndex, List, length, true, ◌≡◌, ℕ, zero, suc, ◌*◌, ◌^◌, ◌<◌, ◌≤◌, false, get_or, replicate, sym, refl, ap, ◌∙◌, ⊎_elim, le_trans, le_of_eq, mul-zero, zero-mul, arith, pow_mono}
 use Rattle.std.proofs.lemmas.Nat.{mul-le, pow-add}
-use Rattle.std.proofs.lemmas.Bool.{cases_eq}
+use Rattle.std.proofs.lemmas.Bool.{cases_eq, cases_lt, true≢false}
+use Rattle.std.proofs.lemmas.List.{drop_more, get_or_past}
+use Rattle.std.proofs.Math.ListN.{drop_of_length-le}
 use Rattle.std.specs.Cmp.Lexicographic.{pointwise}
 use Rattle.std.specs.Ordering.{on}
 use Rattle.std.proofs.lemmas.Bool.Decides.{Decides-eqb}
 use Rattle.std.proofs.lemmas.Slice.Eq.{slice_eq-Decides}
 use Rattle.value_set.specs.declared.block.Block.{Block}
 use Rattle.value_set.specs.declared.set.ValueSet.{ValueSet}
-use Rattle.value_set.specs.Blocks.{block_size, no_block, no_values, side_of}
+use Rattle.value_set.specs.Blocks.{block_size, LiesIn, no_block, no_values, side_of}
 use Rattle.value_set.specs.Limits.{most_options}
 use Rattle.value_set.specs.Members.{member, size, NoMember}
 use Rattle.value_set.proofs.Bits.{has_none}
@@ -45,14 +47,7 @@ block_size-le b (suc n) =
 pub block_size_fits : (b : Block) (n : ℕ) → n ≤ 12 → block_size b n ≤ 2 ^ 60
 block_size_fits b n le = let most : n * 5 ≤ 60 = omega arith in le_trans (block_size-le b n) (pow_mono most)
 
--- blocks with the same first sides
-pub block_size_same : (b c : Block) (n : ℕ) → ((i : ℕ) → i < n → side_of b i ≡ side_of c i) → block_size b n ≡ block_size c n
-unfolding block_size
-block_size_same b c zero same = refl
-block_size_same b c (suc n) same =
-    ap₂ (λ k s. k * size s) (block_size_same b c n (λ i lt. same i (omega arith))) (same n (omega arith))
-
--- a block with an empty side
+-- a block with an empty side; no function needs it yet
 pub block_size_none : (b : Block) (n i : ℕ) → i < n → NoMember (side_of b i) → block_size b n ≡ 0
 unfolding block_size
 block_size_none b zero i lt none = absurd (omega arith)
@@ -61,3 +56,30 @@ block_size_none b (suc n) i lt none =
     (λ last. ap (λ k. block_size b n * size (side_of b k)) (sym last) ∙ ap (λ k. block_size b n * k) (size_none (side_of b i) none) ∙ mul-zero (block_size b n))
     (λ before. ap (λ k. k * size (side_of b n)) (block_size_none b n i (omega arith) none) ∙ zero-mul (size (side_of b n)))
     (cases_eq i n)
+
+-- a configuration lies in a block if each of its values is in a side, since there are no sides past the last
+pub lies_in : (b : Block) (c : List ℕ) (r : Bool) → length b.sides ≡ 12
+    → (IsTrue r ↔ EachIndex c (λ k. member (side_of b k) (get_or c k 0) ≡ true)) → Decides r (LiesIn b c)
+lies_in b c r sides each = (λ yes. (fits (each.0 yes), each.0 yes), λ lies. each.1 lies.1)
+  where
+    fits : EachIndex c (λ k. member (side_of b k) (get_or c k 0) ≡ true) → length c ≤ 12
+    fits inside =
+        ⊎_elim
+        (λ long. absurd (true≢false (sym (inside 12 long) ∙ ap (λ s. member s (get_or c 12 0)) (get_or_past b.sides 12 no_values (omega arith)) ∙ has_none (get_or c 12 0))))
+        (λ le. le)
+        (cases_lt 12 (length c))
+
+-- the next of the sides that are left, from side k on
+pub side_next : (b : Block) (k : ℕ) (left next : List ValueSet) (s : ValueSet) → length b.sides ≡ 12 → left ≡ drop k b.sides → left ≡ s ∷ next
+    → (k < 12) × (s ≡ side_of b k) × (next ≡ drop (k + 1) b.sides)
+side_next b k left next s sides at comes = ⊎_elim found (λ past. absurd (gone past)) (cases_lt k 12)
+  where
+    gone : 12 ≤ k → ⊥
+    gone past =
+        let none : drop k b.sides ≡ [] = drop_of_length-le b.sides (omega arith) in
+        cc
+
+    found : k < 12 → (k < 12) × (s ≡ side_of b k) × (next ≡ drop (k + 1) b.sides)
+    found lt =
+        let more : drop k b.sides ≡ side_of b k ∷ drop (k + 1) b.sides = drop_more b.sides k no_values (omega arith) in
+        (lt, cc, cc)

@@ -1,7 +1,7 @@
 -- How many numbers below a bound pass a test. Assumes nothing.
 use Rattle.std.proofs.Common.{◌≡◌, ℕ, zero, suc, ◌+◌, ◌/◌, ◌%◌, ◌^◌, ◌<◌, ◌≤◌, Bool, true, false, cond, not, ◌&&◌, ◌||◌, eqb, sym, refl, ap, ◌∙◌, ap₂, ⊎_elim, le_of_eq, pow-suc, arith}
 use lib.Count.{ones, ones_step}
-use Rattle.std.proofs.lemmas.Bool.{cases_Bool, cases_eq, cases_lt, cases_order, eq-eqb, eqb-true, ne_eqb, true≢false}
+use Rattle.std.proofs.lemmas.Bool.{cases_eq, cases_lt, cases_order, eq-eqb, eqb-true, ne_eqb, true≢false}
 use Rattle.value_set.specs.Members.{has, count_below}
 use Rattle.value_set.proofs.Bits.{has-zero, has-suc}
 
@@ -42,6 +42,16 @@ pub count_out : (n : ℕ) (p : ℕ → Bool) → p n ≡ false → count_below (
 unfolding count_below
 count_out n p missing = ap (λ b. count_below n p + cond b 1 0) missing ∙ omega arith
 
+-- where one passes
+pub count_some : (n : ℕ) (p : ℕ → Bool) (v : ℕ) → v < n → p v ≡ true → 0 < count_below n p
+unfolding count_below
+count_some zero p v lt there = absurd (omega arith)
+count_some (suc n) p v lt there =
+    ⊎_elim
+    (λ last. omega (arith, count_in n p (ap p (sym last) ∙ there)))
+    (λ before. omega (arith, count_some n p v (omega arith) there))
+    (cases_eq v n)
+
 -- ---- the count
 
 pub count_le : (n : ℕ) (p : ℕ → Bool) → count_below n p ≤ n
@@ -77,29 +87,6 @@ unfolding count_below
 count_none zero p none = refl
 count_none (suc n) p none = count_out n p (none n (omega arith)) ∙ count_none n p (λ v lt. none v (omega arith))
 
--- where one passes
-pub count_some : (n : ℕ) (p : ℕ → Bool) (v : ℕ) → v < n → p v ≡ true → 0 < count_below n p
-unfolding count_below
-count_some zero p v lt there = absurd (omega arith)
-count_some (suc n) p v lt there =
-    ⊎_elim
-    (λ last. omega (arith, count_in n p (ap p (sym last) ∙ there)))
-    (λ before. omega (arith, count_some n p v (omega arith) there))
-    (cases_eq v n)
-
-pub none_count : (n : ℕ) (p : ℕ → Bool) → count_below n p ≡ 0 → (v : ℕ) → v < n → p v ≡ false
-none_count n p zero-count v lt =
-    ⊎_elim (λ there. absurd (omega (arith, count_some n p v lt there))) (λ missing. missing) (cases_Bool (p v))
-
--- a larger bound, where none passes from the smaller one on
-pub count_more : (n m : ℕ) (p : ℕ → Bool) → n ≤ m → ((v : ℕ) → n ≤ v → v < m → p v ≡ false) → count_below m p ≡ count_below n p
-count_more n zero p le none = ap (λ k. count_below k p) (omega arith)
-count_more n (suc m) p le none =
-    ⊎_elim
-    (λ lt. count_out m p (none m (omega arith) (omega arith)) ∙ count_more n m p (omega arith) (λ v low high. none v low (omega arith)))
-    (λ ge. ap (λ k. count_below k p) (omega arith))
-    (cases_lt n (suc m))
-
 -- one number alone
 pub count_single : (n k : ℕ) → k < n → count_below n (λ v. eqb v k) ≡ 1
 unfolding count_below
@@ -116,26 +103,6 @@ count_without n p k lt there =
     let split = count_same n p (λ v. (p v && not (eqb v k)) || eqb v k) (λ v _. put_back (p v) (eqb v k) (λ e. ap p (eqb-true v k e) ∙ there)) in
     let parts = count_or n (λ v. p v && not (eqb v k)) (λ v. eqb v k) (λ v _. apart (p v) (eqb v k)) in
     omega (arith, count_single n k lt)
-
--- a larger bound counts no less
-pub count_up : (n m : ℕ) (p : ℕ → Bool) → n ≤ m → count_below n p ≤ count_below m p
-unfolding count_below
-count_up n zero p le = let none : n ≡ 0 = omega arith in le_of_eq (ap (λ k. count_below k p) none)
-count_up n (suc m) p le =
-    ⊎_elim
-    (λ lt. omega (arith, count_up n m p (omega arith)))
-    (λ ge. let all : n ≡ suc m = omega arith in le_of_eq (ap (λ k. count_below k p) all))
-    (cases_lt n (suc m))
-
--- of those that pass, no two have the same number below them
-pub count_unique : (p : ℕ → Bool) (v w : ℕ) → p v ≡ true → p w ≡ true → count_below v p ≡ count_below w p → v ≡ w
-count_unique p v w pv pw same =
-    ⊎_elim
-    (λ e. e)
-    (⊎_elim
-    (λ lt. absurd (omega (arith, count_in v p pv, count_up (suc v) w p lt)))
-    (λ lt. absurd (omega (arith, count_in w p pw, count_up (suc w) v p lt))))
-    (cases_order v w)
 
 -- ---- the bits of a mask that are 1
 
@@ -157,3 +124,23 @@ ones_count (suc n) m h =
     let low : cond (has m 0) 1 0 ≡ m % 2 = ap (λ b. cond b 1 0) (has-zero m) ∙ digit (m % 2) (omega arith) in
     let high = count_same n (has (m / 2)) (λ v. has m (suc v)) (λ v lt. sym (has-suc m v)) in
     omega (arith, ones_step m, ones_count n (m / 2) (omega (arith, pow-suc 2 n)), low, high, count_suc n (has m))
+
+-- a larger bound counts no less
+pub count_up : (n m : ℕ) (p : ℕ → Bool) → n ≤ m → count_below n p ≤ count_below m p
+unfolding count_below
+count_up n zero p le = let none : n ≡ 0 = omega arith in le_of_eq (ap (λ k. count_below k p) none)
+count_up n (suc m) p le =
+    ⊎_elim
+    (λ lt. omega (arith, count_up n m p (omega arith)))
+    (λ ge. let all : n ≡ suc m = omega arith in le_of_eq (ap (λ k. count_below k p) all))
+    (cases_lt n (suc m))
+
+-- of those that pass, no two have the same number below them
+pub count_unique : (p : ℕ → Bool) (v w : ℕ) → p v ≡ true → p w ≡ true → count_below v p ≡ count_below w p → v ≡ w
+count_unique p v w pv pw same =
+    ⊎_elim
+    (λ e. e)
+    (⊎_elim
+    (λ lt. absurd (omega (arith, count_in v p pv, count_up (suc v) w p lt)))
+    (λ lt. absurd (omega (arith, count_in w p pw, count_up (suc w) v p lt))))
+    (cases_order v w)

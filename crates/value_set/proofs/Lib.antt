@@ -5,3 +5,4 @@ pub mod Lists
 pub mod Sizes
 pub mod Steps
 pub mod Blocks
+pub mod Masks

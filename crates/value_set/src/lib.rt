@@ -3,7 +3,6 @@
 #![tactic(auto)]
 
 mod block;
-mod masks;
 mod places;
 mod set;
 mod values;

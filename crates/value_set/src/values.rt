@@ -38,14 +38,7 @@ impl ValueSet {
     pub fn nth(self, index: u32) -> Option<u8>
         ensures { MatchOption result (size self ≤ index) (Nth self index) }
     {
-        let mut passed = 0;
-        for value in self.values() {
-            if passed == index {
-                return Some(value);
-            }
-            passed += 1;
-        }
-        None
+        self.values().nth(index as usize)
     }
 
     /// The least value and the set of the others, which is smaller.
