@@ -1,6 +1,7 @@
 -- A set that is not within the first m values has a value from m on. Assumes nothing.
-use Rattle.std.proofs.Common.{◌≡◌, ℕ, zero, suc, ◌^◌, ◌<◌, ◌≤◌, Bool, true, false, ◌&&◌, T, ltb, leb, ◌⊎◌, ap, ◌∙◌, ap₂, inl, inr, ⊎_elim, arith, lt-ltb, leb-false, leb-true}
+use Rattle.std.proofs.Common.{◌≡◌, ℕ, zero, suc, ◌^◌, ◌<◌, ◌≤◌, Bool, true, false, ◌&&◌, T, ltb, leb, ◌⊎◌, sym, refl, ap, ◌∙◌, ap₂, inl, inr, ⊎_elim, arith, lt-ltb, ltb-true, leb-false, leb-true}
 use borrow.Author.Tests.{clash}
+use Rattle.std.proofs.lemmas.Float.{T_from_true}
 use Rattle.std.proofs.lemmas.Bool.{and_parts, cases_Bool, cases_order}
 use Rattle.value_set.specs.declared.set.ValueSet.{ValueSet}
 use Rattle.value_set.specs.Members.{member, Within}
@@ -19,10 +20,6 @@ some_below (suc n) p =
     (cases_Bool (p n)))
     (some_below n p)
 
-is_true : (b : Bool) → b ≡ true → T b
-is_true true e = tt
-is_true false e = clash e
-
 -- the first m values of those below 32, at a value below m
 in_first : (m v : ℕ) → v < 32 → v < m → (ltb v m && ltb v 32) ≡ true
 in_first m v low lt = ap₂ ◌&&◌ (lt-ltb v m lt) (lt-ltb v 32 low)
@@ -34,9 +31,19 @@ not_there false b e t = absurd (clash t)
 pub value_beyond : (m : ℕ) (s t : ValueSet) → s.mask < 2 ^ 32 → ((v : ℕ) → member t v ≡ (ltb v m && ltb v 32)) → (Within s t → ⊥) → (v : ℕ) × (m ≤ v) × T (member s v)
 value_beyond m s t fits first outside =
     ⊎_elim
-    (λ found. let both = and_parts _ _ found.2 in (found.0, leb-true _ _ both.1, is_true _ both.0))
+    (λ found. let both = and_parts _ _ found.2 in (found.0, leb-true _ _ both.1, T_from_true _ both.0))
     (λ none.
     absurd (outside (λ v there.
     let low = has_below 32 s.mask v fits there in
     first v ∙ in_first m v low (leb-false _ _ (not_there _ _ (none v low) there)))))
     (some_below 32 (λ v. member s v && leb m v))
+
+from_true : (b : Bool) → T b → b ≡ true
+from_true true t = refl
+from_true false t = elim t [ ]
+
+-- a set that is within them has none
+pub none_beyond : (m : ℕ) (s t : ValueSet) → ((v : ℕ) → member t v ≡ (ltb v m && ltb v 32)) → Within s t → (v : ℕ) → m ≤ v → T (member s v) → ⊥
+none_beyond m s t first inside v from there =
+    let both = and_parts (ltb v m) (ltb v 32) (sym (first v) ∙ inside v (from_true _ there)) in
+    omega (arith, ltb-true _ _ both.0)

@@ -1,5 +1,5 @@
 -- The rules by their numbers, and a record's first fault by them. Assumes nothing.
-use Rattle.std.proofs.Common.{◌≡◌, ℕ, ◌+◌, ◌<◌, cond, eqb, ◌⊎◌, List, Option, sym, refl, ap, ◌∙◌, subst, inl, inr, ⊎_elim, arith}
+use Rattle.std.proofs.Common.{◌≡◌, ℕ, zero, suc, get_or, ◌+◌, ◌<◌, cond, eqb, ◌⊎◌, List, [], ◌∷◌, Option, sym, refl, ap, ◌∙◌, subst, inl, inr, ⊎_elim, arith}
 use Rattle.std.proofs.lemmas.Bool.{cases_order}
 use Rattle.record_file.specs.declared.fault.Layer.TheVariants.{File, Record, Book}
 use Rattle.record_file.specs.declared.fault.Rule.{Rule}
@@ -72,6 +72,22 @@ on_record TooManyInequalities lt e = never_file (inr e)
 abbrev pub SoundBelow : List ℕ → ℕ → ℕ → Type 0
 SoundBelow file k n = (r : Rule) (b : ℕ) → OnRecord r → number_of r < n → Breaks file r k b → ⊥
 
+-- the rules on records, in the order of their numbers
+abbrev pub record_rules : List Rule
+record_rules =
+    UnknownLetter ∷ MisplacedOption ∷ ValueCount ∷ UnknownReference ∷ MaskBeyondValues ∷ ReservedByte ∷ Duplicate ∷ TooManyInequalities ∷ []
+
+number_at : (i : ℕ) (d : Rule) → i < 8 → number_of (get_or record_rules i d) ≡ i + 4
+number_at zero d lt = refl
+number_at (suc zero) d lt = refl
+number_at (suc (suc zero)) d lt = refl
+number_at (suc (suc (suc zero))) d lt = refl
+number_at (suc (suc (suc (suc zero)))) d lt = refl
+number_at (suc (suc (suc (suc (suc zero))))) d lt = refl
+number_at (suc (suc (suc (suc (suc (suc zero)))))) d lt = refl
+number_at (suc (suc (suc (suc (suc (suc (suc zero))))))) d lt = refl
+number_at (suc (suc (suc (suc (suc (suc (suc (suc i)))))))) d lt = absurd (omega arith)
+
 module _ (file : List ℕ) (k : ℕ) where
   -- a rule's answer, under another name of the rule
   pub finds_for : (answer : Option ℕ) {rule same : Rule} → rule ≡ same → Finds answer (Breaks file same k) → Finds answer (Breaks file rule k)
@@ -84,10 +100,6 @@ module _ (file : List ℕ) (k : ℕ) where
       (⊎_elim (λ less. below r b nf less broken) (λ more. omega arith))
       (cases_order (number_of r) n)
 
-  pub sound_below_none : (n : ℕ) → ((rule : Rule) → number_of rule ≡ n → ⊥) → SoundBelow file k n → SoundBelow file k (n + 1)
-  sound_below_none n none below r b nf lt =
-      ⊎_elim (λ same. absurd (none r same)) (⊎_elim (λ less. below r b nf less) (λ more. absurd (omega arith))) (cases_order (number_of r) n)
-
   pub first_in_record : (rule : Rule) (b : ℕ) → OnRecord rule → Breaks file rule k b → SoundBelow file k (number_of rule) → FirstInRecord file k (fault_at rule k b)
   first_in_record rule b nf broken below = record {
     place = refl;
@@ -96,3 +108,17 @@ module _ (file : List ℕ) (k : ℕ) where
     first = λ r a nf' broken' lt. below r a nf' lt broken';
     layer = refl;
   }
+
+  -- rule by rule, in the order of the list
+  module _ (i : ℕ) (d : Rule) (lt : i < 8) (below : SoundBelow file k (i + 4)) where
+    is_on : OnRecord (get_or record_rules i d)
+    is_on = on_record _ (omega (arith, number_at i d lt))
+
+    pub sound_below_next : (OnRecord (get_or record_rules i d) → (b : ℕ) → Breaks file (get_or record_rules i d) k b → ⊥) → SoundBelow file k (i + 1 + 4)
+    sound_below_next none =
+        let next : i + 4 + 1 ≡ i + 1 + 4 = omega arith in
+        subst (SoundBelow file k) next (sound_below_more (i + 4) _ (number_at i d lt) (none is_on) below)
+
+    pub first_broken : (b : ℕ) → (OnRecord (get_or record_rules i d) → Breaks file (get_or record_rules i d) k b) → FirstInRecord file k (fault_at (get_or record_rules i d) k b)
+    first_broken b broken =
+        first_in_record _ b is_on (broken is_on) (subst (SoundBelow file k) (sym (number_at i d lt)) below)

@@ -3,5 +3,5 @@ pub mod Rules
 pub mod Faults
 pub mod Reading
 pub mod Tallies
-pub mod Marks
 pub mod WorkedExamples
+pub mod Numbers

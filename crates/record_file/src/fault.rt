@@ -1,6 +1,10 @@
 // What can be wrong with a record file: the rules by name and number, and a fault with the place where it lies.
 ghost use Rattle.std.specs.Prelude.{◌≡◌, MatchOption, ◌≢◌};
 ghost use Rattle.record_file.specs.Faults.{number_of, layer_of, fault_at};
+ghost use Rattle.record_file.specs.Numbers.{Numbered};
+
+use std::error::Error;
+use std::fmt;
 
 // A rule of the record file. A file that breaks it is refused under the rule's number.
 #[derive(Clone, Copy, PartialEq, Eq, Debug)]
@@ -35,27 +39,50 @@ pub struct Fault {
     pub layer: Layer,
 }
 
+// A number that no rule has.
+#[derive(Clone, Copy, PartialEq, Eq, Debug)]
+pub struct UnknownNumber(pub u8);
+
+impl TryFrom<u8> for Rule {
+    type Error = UnknownNumber;
+
+    ghost try_from_gives = { Numbered };
+
+    fn try_from(number: u8) -> Result<Rule, UnknownNumber> {
+        match number {
+            1 => Ok(Rule::TooLong),
+            2 => Ok(Rule::PartialRecord),
+            3 => Ok(Rule::NoRecord),
+            4 => Ok(Rule::UnknownLetter),
+            5 => Ok(Rule::MisplacedOption),
+            6 => Ok(Rule::ValueCount),
+            7 => Ok(Rule::UnknownReference),
+            8 => Ok(Rule::MaskBeyondValues),
+            9 => Ok(Rule::ReservedByte),
+            10 => Ok(Rule::Duplicate),
+            11 => Ok(Rule::TooManyInequalities),
+            _ => Err(UnknownNumber(number)),
+        }
+    }
+}
+
+impl fmt::Display for UnknownNumber {
+    fn fmt<W: fmt::Write>(&self, f: &mut fmt::Formatter<W>) -> fmt::Result {
+        write!(f, "no rule has the number {}", self.0)
+    }
+}
+
+impl Error for UnknownNumber {}
+
 impl Rule {
     // The rule with a number, if there is one.
     pub fn from_number(number: u8) -> Option<Rule>
         ensures { MatchOption result ((rule : Rule) → number_of rule ≢ number) (λ rule. number_of rule ≡ number) }
     {
-        match number {
-            1 => Some(Rule::TooLong),
-            2 => Some(Rule::PartialRecord),
-            3 => Some(Rule::NoRecord),
-            4 => Some(Rule::UnknownLetter),
-            5 => Some(Rule::MisplacedOption),
-            6 => Some(Rule::ValueCount),
-            7 => Some(Rule::UnknownReference),
-            8 => Some(Rule::MaskBeyondValues),
-            9 => Some(Rule::ReservedByte),
-            10 => Some(Rule::Duplicate),
-            11 => Some(Rule::TooManyInequalities),
-            _ => None,
-        }
+        Rule::try_from(number).ok()
     }
 
+    // By name, since a refusal is told under its number.
     pub fn number(self) -> u8
         ensures { result ≡ number_of self }
     {

@@ -4,7 +4,7 @@ ghost use Rattle.record_file.specs.Faults.{Sound};
 ghost use Rattle.record_file.specs.Layout.{whole_records};
 ghost use Rattle.record_file.specs.Reading.{Reads};
 
-use crate::layout::{RECORD_LENGTH, byte_at, letter_at, part_at};
+use crate::layout::{RECORD_LENGTH, RawRecord};
 
 // A record of a rule book. Numbers that take several bytes are parts of the file, the lowest byte first.
 #[derive(Clone, Copy, Debug)]
@@ -45,28 +45,30 @@ impl<'a> Record<'a> {
         if number >= file.len() / RECORD_LENGTH {
             return None;
         }
-        let option = byte_at(file, number, 1);
-        match letter_at(file, number) {
+        let record = RawRecord { file, number };
+        let option = record.byte(1);
+        // Kinds are told by a `match` on the letter, as the format tells them.
+        match record.letter() {
             'O' => Some(Record::Domain {
                 option,
-                count: byte_at(file, number, 2),
-                name: part_at(file, number, 4, 12),
+                count: record.byte(2),
+                name: record.part(4, 12),
             }),
             'R' => Some(Record::Row {
                 option,
-                value: byte_at(file, number, 2),
-                other: byte_at(file, number, 3),
-                mask: part_at(file, number, 4, 4),
+                value: record.byte(2),
+                other: record.byte(3),
+                mask: record.part(4, 4),
             }),
             'L' => Some(Record::Inequality {
                 option,
-                other: byte_at(file, number, 3),
-                coefficients: part_at(file, number, 4, 8),
+                other: record.byte(3),
+                coefficients: record.part(4, 8),
             }),
             'P' => Some(Record::Price {
                 option,
-                value: byte_at(file, number, 2),
-                price: part_at(file, number, 4, 4),
+                value: record.byte(2),
+                price: record.part(4, 4),
             }),
             _ => None,
         }

@@ -1,9 +1,0 @@
-use Rattle.std.proofs.Common.{arith}
-use borrow.Author.Tests.{false-ltb}
-use Rattle.record_file.proofs.Marking.{unmarked_past}
-use Rattle.record_file.proofs.marks.Marks.contains.Goals as goal
-
-pub returns-in-None : goal.returns-in-None
-returns-in-None c =
-    let past = false-ltb _ _ c.in-None.ensures.lookup.0 in
-    unmarked_past c.args.self.now c.args.option c.args.value (omega arith)

@@ -1,7 +1,0 @@
-use Rattle.std.proofs.Common.{ℕ, ◌<◌}
-use Rattle.record_file.specs.Rules.{HasNonzeroAt}
-use Rattle.record_file.proofs.rules.reserved_byte.Given as goal
-
--- no byte so far breaks the rule
-abbrev pub invariant-loop-at : goal.invariant-loop-at
-invariant-loop-at l = (a : ℕ) → a < l.at → HasNonzeroAt l.file l.number a → ⊥

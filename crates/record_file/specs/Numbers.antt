@@ -1,0 +1,9 @@
+-- The rule that a number stands for. Assumes nothing.
+use Rattle.std.specs.Prelude.{◌≡◌, ℕ, Result, MatchResult}
+use Rattle.record_file.specs.declared.fault.Rule.{Rule}
+use Rattle.record_file.specs.declared.fault.UnknownNumber.{UnknownNumber}
+use Rattle.record_file.specs.Faults.{number_of}
+
+-- the rule with this number, or else the number, which no rule has
+abbrev pub Numbered : ℕ → Result Rule UnknownNumber → Type 0
+Numbered n r = MatchResult r (λ rule. number_of rule ≡ n) (λ e. (e.0 ≡ n) × ((rule : Rule) → number_of rule ≡ n → ⊥))
