@@ -20,7 +20,7 @@ pub struct Barred<B> {
 #[derive(Clone, Copy, PartialEq, Eq, Debug)]
 pub enum BarRefusal {
     /// The book has no such option, or the option has no such value, perhaps since it is barred already.
-    NoSuchValue,
+    NoSuchValue = 13,
 }
 
 impl BarRefusal {
@@ -28,9 +28,7 @@ impl BarRefusal {
     pub fn number(self) -> u8
         ensures { result ≡ refusal_number self }
     {
-        match self {
-            BarRefusal::NoSuchValue => 13,
-        }
+        self as u8
     }
 }
 
@@ -92,6 +90,7 @@ impl<B: Book> Book for Barred<B> {
             .difference(self.barred.side(option))
     }
 
+    #[tactic(auto, using(value_set::proofs::Bits::has_none))]
     fn row(&self, option: usize, value: u8, other: usize) -> ValueSet {
         if self.barred.side(option).contains(value) {
             return ValueSet::EMPTY;
