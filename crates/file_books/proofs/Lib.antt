@@ -2,5 +2,4 @@ pub mod SoundFiles
 pub mod GivenValues
 pub mod ReadOff
 pub mod Conflicting
-pub mod Products
 pub mod RulesKept

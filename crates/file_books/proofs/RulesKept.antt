@@ -1,21 +1,16 @@
--- Which values break some rule of a list, and the rules after one record more. Assumes nothing.
-use Rattle.std.proofs.Common.{◌≡◌, ℕ, zero, suc, ◌+◌, ◌<◌, Bool, true, false, ◌||◌, T, List, [], ◌∷◌, ◌++◌, length, get_or, take, set, replicate, ℤ, ◌<ℤ◌, Some, None, Decides, Option, sym, refl, ap, ◌∙◌, subst, ap₂, subst₂, arith}
+-- Which values keep every rule of a list, and the rules after one record more. Assumes nothing.
+use Rattle.std.proofs.Common.{◌≡◌, ℕ, zero, suc, ◌+◌, ◌<◌, ◌≤◌, Bool, true, false, cond, not, ◌&&◌, ◌||◌, T, List, [], ◌∷◌, length, get_or, set, replicate, ℤ, ◌<ℤ◌, Some, None, Decides, Option, sym, refl, ap, ◌∙◌, subst, ap₂, subst₂, arith, true≢false, lt-ltb}
 use lib.Signed.{lt_z}
-use Rattle.std.proofs.lemmas.List.{get_or-set_other, take_more}
+use Rattle.std.specs.List.{count_by, position, position_or_len}
+use Rattle.std.specs.Option.{is_none, MatchOption}
+use Rattle.std.proofs.lemmas.List.Quantifiers.{position-Some}
+use Rattle.std.proofs.lemmas.List.Sums.{sum_by-set}
 use Rattle.std.proofs.lemmas.Bool.Decides.{nat_tests, Decides-and, Decides-at, Decides-eqb, Decides-like}
-use Rattle.value_set.proofs.Blocks.{holds_throughout}
 use Rattle.record_file.specs.Layout.{HasLetter, l_letter}
 use Rattle.record_file.proofs.Counting.{count_before_none, count_before_in, count_before_out}
 use Rattle.record_file.proofs.Counting.{decides_none, decides_one_more, decides_no_more}
 use Rattle.file_books.specs.declared.inequalities.Inequality.{Inequality}
-use Rattle.file_books.specs.Inequalities.{broken, breaks_one, breaks_some, combined, signed_pair, InequalityForbids, RuleOf, RulesBefore}
-
-or_assoc : (a b c : Bool) → ((a || b) || c) ≡ (a || (b || c))
-or_assoc true b c = refl
-or_assoc false b c = refl
-
-or_first : (a b c : Bool) → a ≡ false → (c || b) ≡ ((a || b) || c)
-or_first a b c none = grind (arith, nat_tests)
+use Rattle.file_books.specs.Inequalities.{broken, keeps_all, combined, signed_pair, InequalityForbids, RuleOf, Adds, RulesBefore}
 
 decides_less : (a b : ℤ) → Decides (lt_z a b) (a <ℤ b)
 decides_less a b = (λ yes. record { lt = subst T (sym yes) tt }, λ less. told (lt_z a b) less.lt)
@@ -24,45 +19,51 @@ decides_less a b = (λ yes. record { lt = subst T (sym yes) tt }, λ less. told 
     told true _ = refl
     told false never = absurd never
 
-module _ (i x j y : ℕ) where
-  breaks_append : (rs ss : List (Option Inequality)) → breaks_some (rs ++ ss) i x j y ≡ (breaks_some rs i x j y || breaks_some ss i x j y)
-  breaks_append [] ss = refl
-  breaks_append (r ∷ rs) ss = ap (λ t. breaks_one r i x j y || t) (breaks_append rs ss) ∙ sym (or_assoc (breaks_one r i x j y) _ _)
+-- a rule more, where there was none
+keeps_set : (i x j y : ℕ) (rs : List (Option Inequality)) (t : ℕ) (r : Inequality) → t < length rs → is_none (get_or rs t None) ≡ true
+    → keeps_all (set rs t (Some r)) i x j y ≡ (keeps_all rs i x j y && not (broken r i x j y))
+keeps_set i x j y [] t r lt free = absurd (omega arith)
+keeps_set i x j y (None ∷ rs) zero r lt free = grind (arith, nat_tests)
+keeps_set i x j y (Some s ∷ rs) zero r lt free = absurd (true≢false (sym free))
+keeps_set i x j y (None ∷ rs) (suc t) r lt free = keeps_set i x j y rs t r (omega arith) free
+keeps_set i x j y (Some s ∷ rs) (suc t) r lt free = let rest = keeps_set i x j y rs t r (omega arith) free in grind (arith, nat_tests)
 
-  pub breaks_at : (rs : List (Option Inequality)) (t : ℕ) → t < length rs → breaks_one (get_or rs t None) i x j y ≡ true → breaks_some rs i x j y ≡ true
-  breaks_at [] t lt breaks = absurd (omega arith)
-  breaks_at (r ∷ rs) zero lt breaks = rw breaks refl
-  breaks_at (r ∷ rs) (suc t) lt breaks = let rest = breaks_at rs t (omega arith) breaks in grind (arith, nat_tests)
+some_free : (rs : List (Option Inequality)) → 1 ≤ count_by is_none rs → position_or_len is_none rs < length rs
+some_free [] some = absurd (omega arith)
+some_free (None ∷ rs) some = let first : position_or_len is_none (None ∷ rs) ≡ 0 = refl in omega (arith, first)
+some_free (Some s ∷ rs) some =
+    let later : position_or_len is_none (Some s ∷ rs) ≡ 1 + position_or_len is_none rs = refl in
+    omega (arith, later, some_free rs some)
 
-  pub breaks_next : (rs : List (Option Inequality)) (t : ℕ) → t < length rs → breaks_some (take t rs) i x j y ≡ false
-      → breaks_one (get_or rs t None) i x j y ≡ false → breaks_some (take (t + 1) rs) i x j y ≡ false
-  breaks_next rs t lt before here =
-      ap (λ ss. breaks_some ss i x j y) (take_more rs t None lt) ∙ breaks_append (take t rs) (get_or rs t None ∷ []) ∙ grind (arith, nat_tests)
+module _ (before after : List (Option Inequality)) (r : Inequality) (adds : Adds before r after) (some : 1 ≤ count_by is_none before) where
+  added : (t : ℕ) × (after ≡ set before t (Some r)) × (t < length before) × (is_none (get_or before t None) ≡ true)
+  added =
+      let t = position_or_len is_none before in
+      let lt : t < length before = some_free before some in
+      let found : position is_none before ≡ Some t = rw (lt-ltb t (length before) lt) refl in
+      (t, subst (λ o. MatchOption o (after ≡ before) (λ i. after ≡ set before i (Some r))) found adds, lt, (position-Some is_none before t None found).1)
 
-  -- a rule more, where there was none
-  breaks_set : (rs : List (Option Inequality)) (t : ℕ) (r : Inequality) → t < length rs → get_or rs t None ≡ None
-      → breaks_some (set rs t (Some r)) i x j y ≡ (breaks_some rs i x j y || broken r i x j y)
-  breaks_set [] t r lt free = absurd (omega arith)
-  breaks_set (s ∷ rs) zero r lt free =
-      or_first (breaks_one s i x j y) (breaks_some rs i x j y) (broken r i x j y) (ap (λ o. breaks_one o i x j y) free)
-  breaks_set (s ∷ rs) (suc t) r lt free =
-      ap (λ b. breaks_one s i x j y || b) (breaks_set rs t r (omega arith) free) ∙ sym (or_assoc (breaks_one s i x j y) (breaks_some rs i x j y) (broken r i x j y))
+  fewer_free : count_by is_none after + 1 ≡ count_by is_none before
+  fewer_free =
+      rw added.1
+      (omega (arith, sum_by-set (λ o. cond (is_none o) 1 0) before added.0 (Some r) None added.2, ap (λ b. cond {A = ℕ} b 1 0) added.3))
 
-module _ (file : List ℕ) (k : ℕ) (rules : List (Option Inequality)) (n : ℕ) (h : RulesBefore file k rules n) where
+  breaks_more : (i x j y : ℕ) → not (keeps_all after i x j y) ≡ (not (keeps_all before i x j y) || broken r i x j y)
+  breaks_more i x j y = rw added.1 (let kept = keeps_set i x j y before added.0 r added.2 added.3 in grind (arith, nat_tests))
+
+module _ (file : List ℕ) (k : ℕ) (rules : List (Option Inequality)) (h : RulesBefore file k rules) where
   -- a record of another kind
-  pub rules_kept : (HasLetter file k l_letter → ⊥) → RulesBefore file (k + 1) rules n
+  pub rules_kept : (HasLetter file k l_letter → ⊥) → RulesBefore file (k + 1) rules
   rules_kept other = record {
-    counted = h.counted ∙ sym (count_before_out file l_letter k other);
-    free = h.free;
+    free = omega (arith, h.free, count_before_out file l_letter k other);
     broken = λ i x j y. decides_no_more (λ l. InequalityForbids file l i x j y) k _ (h.broken i x j y) (λ (at, _). other at.0);
   }
 
   -- an L record
-  pub rules_added : (r : Inequality) → RuleOf file k r → n < length rules → RulesBefore file (k + 1) (set rules n (Some r)) (n + 1)
-  rules_added r is room = record {
-    counted = ap (λ m. m + 1) h.counted ∙ sym (count_before_in file l_letter k is.letter);
-    free = λ t past. get_or-set_other rules n t (Some r) None (λ same. omega arith) ∙ h.free t (omega arith);
-    broken = λ i x j y. Decides-at _ _ (breaks_set i x j y rules n r room (h.free n (omega arith)))
+  pub rules_added : (r : Inequality) (after : List (Option Inequality)) → RuleOf file k r → 1 ≤ count_by is_none rules → Adds rules r after → RulesBefore file (k + 1) after
+  rules_added r after is some adds = record {
+    free = omega (arith, h.free, fewer_free rules after r adds some, count_before_in file l_letter k is.letter);
+    broken = λ i x j y. Decides-at _ _ (breaks_more rules after r adds some i x j y)
         (decides_one_more (λ l. InequalityForbids file l i x j y) k _ _ (h.broken i x j y) (here i x j y));
   }
     where
@@ -77,9 +78,8 @@ module _ (file : List ℕ) (k : ℕ) (rules : List (Option Inequality)) (n : ℕ
           sum = ap₂ (λ p q. combined p q x y) is.p is.q
 
 -- before the first record
-pub rules_none : (file : List ℕ) → RulesBefore file 0 (replicate 16 None) 0
+pub rules_none : (file : List ℕ) → RulesBefore file 0 (replicate 16 None)
 rules_none file = record {
-  counted = sym (count_before_none file l_letter);
-  free = λ t past. holds_throughout (λ o. o ≡ None) 16 None None t refl refl;
+  free = omega (arith, count_before_none file l_letter);
   broken = λ i x j y. decides_none (λ l. InequalityForbids file l i x j y) _ refl;
 }

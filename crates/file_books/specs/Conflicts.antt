@@ -1,8 +1,9 @@
 -- The pairs of values that R records forbid, and the table that keeps them. Assumes nothing.
-use Rattle.std.specs.Prelude.{◌≡◌, ℕ, ◌+◌, ◌*◌, ◌<◌, Bool, false, not, List, [], Decides, slice_index_or}
+use Rattle.std.specs.Prelude.{◌≡◌, ℕ, ◌<◌, Bool, false, not, List, [], Decides, slice_index_or}
 use Rattle.value_set.specs.Blocks.{side_of}
 use Rattle.value_set.specs.Limits.{most_options, most_values}
 use Rattle.value_set.specs.Members.{has, member}
+use Rattle.value_set.specs.Places.{place}
 use Rattle.value_set.specs.declared.block.Block.{Block}
 use Rattle.record_file.specs.Layout.{word, SomeBefore}
 use Rattle.record_file.specs.Rules.{RowAt}
@@ -19,7 +20,7 @@ no_sides = record { sides = [] }
 
 -- whether value a of option i conflicts with value b of option j, by the table
 abbrev pub conflict : Conflicts → ℕ → ℕ → ℕ → ℕ → Bool
-conflict t i a j b = member (side_of (slice_index_or t.blocks (i * most_values + a) no_sides) j) b
+conflict t i a j b = member (side_of (slice_index_or t.blocks (place i a) no_sides) j) b
 
 abbrev pub no_conflict : Conflicts → Pairs
 no_conflict t i a j b = not (conflict t i a j b)

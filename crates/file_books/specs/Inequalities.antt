@@ -1,10 +1,11 @@
 -- The pairs of values that L records forbid, and the rules that are kept of them. Assumes nothing.
-use Rattle.std.specs.Prelude.{◌≡◌, ℕ, ◌+◌, ◌*◌, ◌≤◌, Bool, false, not, ◌&&◌, ◌||◌, List}
-use Rattle.std.specs.Prelude.{[], ◌∷◌, ℤ, pos, ◌+ℤ◌, ◌*ℤ◌, ◌<ℤ◌, Some, None, Decides}
-use Rattle.std.specs.Prelude.{Option, ◌==◌, int_lt, slice_index_or}
+use Rattle.std.specs.Prelude.{◌≡◌, ℕ, ◌+◌, ◌*◌, Bool, not, ◌&&◌, List}
+use Rattle.std.specs.Prelude.{ℤ, pos, ◌+ℤ◌, ◌*ℤ◌, ◌<ℤ◌, Some, Option, MatchOption}
+use Rattle.std.specs.Prelude.{Decides, ◌==◌, int_lt, is_none, flat_map, position, count_by, slice_set, option_to_list}
+use Rattle.std.specs.List.{list_all}
 use Rattle.std.specs.Int.{w16, w32}
 use Rattle.std.proofs.Common.{to_z}
-use Rattle.record_file.specs.Layout.{byte, word, HasLetter, l_letter, count_before, SomeBefore}
+use Rattle.record_file.specs.Layout.{byte, word, most_inequalities, HasLetter, l_letter, count_before, SomeBefore}
 use Rattle.file_books.specs.declared.inequalities.Inequality.{Inequality}
 use Rattle.file_books.specs.Relations.{Pairs, Forbidding}
 
@@ -30,19 +31,9 @@ InequalityForbids file k i x j y =
 abbrev pub broken : Inequality → ℕ → ℕ → ℕ → ℕ → Bool
 broken r i x j y = (r.option == i && r.other == j) && int_lt (combined r.p r.q x y) r.c
 
--- whether these values break the rule, if there is one
-abbrev pub breaks_one : Option Inequality → ℕ → ℕ → ℕ → ℕ → Bool
-breaks_one None i x j y = false
-breaks_one (Some r) i x j y = broken r i x j y
-
--- whether these values break some rule of the list
-abbrev pub breaks_some : List (Option Inequality) → ℕ → ℕ → ℕ → ℕ → Bool
-breaks_some [] i x j y = false
-breaks_some (r ∷ rs) i x j y = breaks_one r i x j y || breaks_some rs i x j y
-
--- whether these values keep every rule
+-- whether these values keep every rule of the list
 abbrev pub keeps_all : List (Option Inequality) → Pairs
-keeps_all rules i x j y = not (breaks_some rules i x j y)
+keeps_all rules i x j y = list_all (λ r. not (broken r i x j y)) (flat_map option_to_list rules)
 
 -- record k is an L record, and this is its rule
 pub record RuleOf (file : List ℕ) (k : ℕ) (r : Inequality) : Type 0 where
@@ -53,8 +44,12 @@ pub record RuleOf (file : List ℕ) (k : ℕ) (r : Inequality) : Type 0 where
   pub q : r.q ≡ signed_pair file k 6
   pub c : r.c ≡ to_z w32 (word file k 8)
 
--- the first rules, as many as this, are those of the L records before record k, and there is no other
-pub record RulesBefore (file : List ℕ) (k : ℕ) (rules : List (Option Inequality)) (n : ℕ) : Type 0 where
-  pub counted : n ≡ count_before file l_letter k
-  pub free : (t : ℕ) → n ≤ t → slice_index_or rules t None ≡ None
-  pub broken : (i x j y : ℕ) → Decides (breaks_some rules i x j y) (SomeBefore k (λ l. InequalityForbids file l i x j y))
+-- the list with the rule at its first free place, if it has one
+abbrev pub Adds : List (Option Inequality) → Inequality → List (Option Inequality) → Type 0
+Adds before r after =
+    MatchOption (position is_none before) (after ≡ before) (λ t. after ≡ slice_set before t (Some r))
+
+-- the rules of the L records before record k, which leave the other places of 16 free
+pub record RulesBefore (file : List ℕ) (k : ℕ) (rules : List (Option Inequality)) : Type 0 where
+  pub free : count_before file l_letter k + count_by is_none rules ≡ most_inequalities
+  pub broken : (i x j y : ℕ) → Decides (not (keeps_all rules i x j y)) (SomeBefore k (λ l. InequalityForbids file l i x j y))

@@ -1,10 +1,11 @@
 // The options that a record file gives, and the values of each.
-ghost use Rattle.std.specs.Prelude.{◌≡◌, ℕ, ◌<◌, ◌≤◌, ◌&&◌, Decides, MatchOption, ◌==◌, nat_lt};
+ghost use Rattle.std.specs.Prelude.{◌≡◌, ℕ, ◌<◌, ◌≤◌, ◌&&◌, List, Decides, MatchOption, ◌==◌, nat_lt};
 ghost use Rattle.value_set.specs.Blocks.{side_of};
 ghost use Rattle.value_set.specs.Limits.{most_options, most_values};
 ghost use Rattle.value_set.specs.Members.{member};
 ghost use Rattle.record_file.specs.Faults.{Sound};
 ghost use Rattle.record_file.specs.Layout.{whole_records, count_before, HasLetter, o_letter};
+ghost use Rattle.record_file.specs.Reading.{Shows};
 ghost use Rattle.file_books.specs.Domains.{Given, HasValue};
 
 use record_file::{RECORD_LENGTH, Record};
@@ -12,6 +13,7 @@ use value_set::{Block, ValueSet};
 
 #[derive(Clone, Copy)]
 pub(crate) struct Domains {
+    // The count of O records, kept beside the sets: to count the sides that are not empty would be no plainer.
     count: usize,
     // The values of each option are that side.
     sets: Block,
@@ -28,8 +30,9 @@ impl Domains {
     {
         let mut count = 0;
         let mut sets = Block::EMPTY;
+        // Records are read by their numbers.
         for number in 0..file.len() / RECORD_LENGTH {
-            if let Some((option, values)) = given_by(file, number) {
+            if let Some((option, values)) = Record::read(file, number).and_then(given_by) {
                 count += 1;
                 sets = sets.with_values(option, values);
             }
@@ -68,11 +71,10 @@ impl Domains {
 }
 
 // The option that a record gives, with its values, if it is an O record.
-fn given_by(file: &[u8], number: usize) -> Option<(usize, ValueSet)>
-    requires { number < whole_records file.now }
-    ensures { MatchOption result (HasLetter file.now number o_letter → ⊥) (Given file.now number) }
+fn given_by(record: Record) -> Option<(usize, ValueSet)>
+    ensures { (file : List ℕ) (k : ℕ) → Shows file k «record».entry
+        → MatchOption result (HasLetter file k o_letter → ⊥) (Given file k) }
 {
-    let record = Record::read(file, number)?;
     match record {
         Record::Domain { option, count, .. } => Some((usize::from(option), ValueSet::first(count))),
         _ => None,

@@ -37,6 +37,33 @@ impl<R: Relation> FileBook<R> {
             },
         }
     }
+
+    // The values of `others`, a set of values of another option, that go with a value of an option. By a loop: the library
+    // tells what a fold comes to where each step is a function, and `with` tells which values a set has.
+    fn partners(&self, option: usize, value: u8, other: usize, others: ValueSet) -> ValueSet
+        ensures { (b : ℕ) → member result b ≡ (member others b
+            && either_order (R.Relation.allows self.now.relation) option value other b) }
+    {
+        let mut row = ValueSet::EMPTY;
+        for partner in others.values() {
+            if self.together(option, value, other, partner) {
+                row = row.with(partner);
+            }
+        }
+        row
+    }
+
+    // Whether values of two options go together, in whichever order the options come. The four numbers stay apart, as
+    // a book and a relation are asked by them.
+    fn together(&self, option: usize, value: u8, other: usize, partner: u8) -> bool
+        ensures { result ≡ either_order (R.Relation.allows self.now.relation) option value other partner }
+    {
+        if option < other {
+            self.relation.contains(option, value, other, partner)
+        } else {
+            self.relation.contains(other, partner, option, value)
+        }
+    }
 }
 
 impl<R: Relation> Book for FileBook<R> {
@@ -52,47 +79,11 @@ impl<R: Relation> Book for FileBook<R> {
         self.domains.set(option)
     }
 
+    #[tactic(auto, using(value_set::proofs::Bits::has_none))]
     fn row(&self, option: usize, value: u8, other: usize) -> ValueSet {
         if option == other || !self.domains.set(option).contains(value) {
             return ValueSet::EMPTY;
         }
-        partners(
-            &self.relation,
-            option,
-            value,
-            other,
-            self.domains.set(other),
-        )
-    }
-}
-
-// The values of `others`, a set of values of another option, that go with a value of an option.
-fn partners<R: Relation>(
-    relation: &R,
-    option: usize,
-    value: u8,
-    other: usize,
-    others: ValueSet,
-) -> ValueSet
-    ensures { (b : ℕ) → member result b ≡ (member others b
-        && either_order (R.Relation.allows relation.now) option value other b) }
-{
-    let mut row = ValueSet::EMPTY;
-    for partner in others.values() {
-        if together(relation, option, value, other, partner) {
-            row = row.with(partner);
-        }
-    }
-    row
-}
-
-// Whether values of two options go together, in whichever order the options come.
-fn together<R: Relation>(relation: &R, option: usize, value: u8, other: usize, partner: u8) -> bool
-    ensures { result ≡ either_order (R.Relation.allows relation.now) option value other partner }
-{
-    if option < other {
-        relation.contains(option, value, other, partner)
-    } else {
-        relation.contains(other, partner, option, value)
+        self.partners(option, value, other, self.domains.set(other))
     }
 }

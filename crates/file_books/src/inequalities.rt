@@ -1,15 +1,11 @@
 // The relation that the L records of a file make.
-ghost use Rattle.std.specs.Prelude.{◌≡◌, ◌+◌, ◌*◌, ◌<◌, not, pos, ◌*ℤ◌, MatchOption, slice_index};
-ghost use Rattle.std.specs.Int.{w16, w32};
-ghost use Rattle.std.proofs.Common.{to_z};
-ghost use Rattle.record_file.specs.Layout.{record_length, whole_records, HasLetter, l_letter};
-ghost use Rattle.file_books.specs.Inequalities.{combined, broken, breaks_one, keeps_all, InequalityForbids, RuleOf};
+ghost use Rattle.std.specs.Prelude.{◌≡◌, ℕ, not, List, pos, ◌*ℤ◌, MatchOption, is_none, position};
+ghost use Rattle.record_file.specs.Layout.{HasLetter, l_letter};
+ghost use Rattle.record_file.specs.Reading.{Shows};
+ghost use Rattle.file_books.specs.Inequalities.{combined, broken, keeps_all, InequalityForbids, RuleOf, Adds};
 
 use crate::relation::Relation;
-use record_file::{RECORD_LENGTH, Record, byte_of};
-
-// A file has at most this many L records.
-const MOST_RULES: usize = 16;
+use record_file::{MOST_INEQUALITIES, RECORD_LENGTH, Record, bytes_of};
 
 /// A rule p·x + q·y ≥ c on the values x of an option and y of a higher one.
 #[derive(Clone, Copy)]
@@ -22,6 +18,27 @@ struct Inequality {
 }
 
 impl Inequality {
+    // The rule of a record, if it is an L record.
+    fn of(record: Record) -> Option<Inequality>
+        ensures { (file : List ℕ) (k : ℕ) → Shows file k «record».entry
+            → MatchOption result (HasLetter file k l_letter → ⊥) (RuleOf file k) }
+    {
+        match record {
+            Record::Inequality {
+                option,
+                other,
+                coefficients,
+            } => Some(Inequality {
+                option: usize::from(option),
+                other: usize::from(other),
+                p: i16::from_le_bytes(bytes_of(coefficients, 0)),
+                q: i16::from_le_bytes(bytes_of(coefficients, 2)),
+                c: i32::from_le_bytes(bytes_of(coefficients, 4)),
+            }),
+            _ => None,
+        }
+    }
+
     fn combined(&self, x: u8, y: u8) -> i64
         ensures { result ≡ combined self.now.p self.now.q x y }
     {
@@ -36,6 +53,7 @@ impl Inequality {
     }
 }
 
+// Multiplied in 32 bits, which is wide enough, so that the sum in 64 bits is bounded by the types alone.
 fn product(coefficient: i16, value: u8) -> i32
     ensures { result ≡ coefficient *ℤ pos value }
 {
@@ -45,7 +63,23 @@ fn product(coefficient: i16, value: u8) -> i32
 /// The rules of the L records.
 #[derive(Clone, Copy)]
 pub struct Inequalities {
-    rules: [Option<Inequality>; MOST_RULES],
+    // As many places as a file can have rules, since a book allocates nothing and is `Copy`.
+    rules: [Option<Inequality>; MOST_INEQUALITIES],
+}
+
+impl Inequalities {
+    const EMPTY: Inequalities = Inequalities {
+        rules: [None; MOST_INEQUALITIES],
+    };
+
+    // Takes in a rule, at the first place that is free.
+    fn add(&mut self, rule: Inequality)
+        ensures { Adds self.old.rules rule self.new.rules }
+    {
+        if let Some(free) = first_free(&self.rules) {
+            self.rules[free] = Some(rule);
+        }
+    }
 }
 
 impl Relation for Inequalities {
@@ -54,91 +88,31 @@ impl Relation for Inequalities {
     ghost Forbids = { InequalityForbids };
 
     fn all() -> Inequalities {
-        Inequalities {
-            rules: [None; MOST_RULES],
-        }
+        Inequalities::EMPTY
     }
 
     fn read(file: &[u8]) -> Inequalities {
-        let mut rules = [None; MOST_RULES];
-        let mut count = 0;
+        let mut inequalities = Inequalities::EMPTY;
+        // Records are read by their numbers.
         for number in 0..file.len() / RECORD_LENGTH {
-            if let Some(rule) = rule_of(file, number) {
-                if count < MOST_RULES {
-                    rules[count] = Some(rule);
-                    count += 1;
-                }
+            if let Some(rule) = Record::read(file, number).and_then(Inequality::of) {
+                inequalities.add(rule);
             }
         }
-        Inequalities { rules }
+        inequalities
     }
 
     fn contains(&self, option: usize, value: u8, other: usize, partner: u8) -> bool {
-        all_permit(&self.rules, option, value, other, partner)
+        self.rules
+            .iter()
+            .copied()
+            .flatten()
+            .all(|rule| rule.permits(option, value, other, partner))
     }
 }
 
-fn all_permit(rules: &[Option<Inequality>], option: usize, x: u8, other: usize, y: u8) -> bool
-    ensures { result ≡ keeps_all rules.now option x other y }
+fn first_free(rules: &[Option<Inequality>]) -> Option<usize>
+    ensures { result ≡ position is_none rules.now }
 {
-    for rule in rules {
-        if !permitted_by(rule, option, x, other, y) {
-            return false;
-        }
-    }
-    true
-}
-
-// Whether values of two options keep a rule, if there is one.
-fn permitted_by(rule: &Option<Inequality>, option: usize, x: u8, other: usize, y: u8) -> bool
-    ensures { result ≡ not (breaks_one rule.now option x other y) }
-{
-    match rule {
-        Some(rule) => rule.permits(option, x, other, y),
-        None => true,
-    }
-}
-
-// The rule of a record, if it is an L record.
-fn rule_of(file: &[u8], number: usize) -> Option<Inequality>
-    requires { number < whole_records file.now }
-    ensures { MatchOption result (HasLetter file.now number l_letter → ⊥) (RuleOf file.now number) }
-{
-    let record = Record::read(file, number)?;
-    match record {
-        Record::Inequality {
-            option,
-            other,
-            coefficients,
-        } => Some(Inequality {
-            option: usize::from(option),
-            other: usize::from(other),
-            p: short_at(coefficients, 0),
-            q: short_at(coefficients, 2),
-            c: long_at(coefficients, 4),
-        }),
-        _ => None,
-    }
-}
-
-// The signed number in two bytes of a part of a record.
-fn short_at(part: &[u8], at: usize) -> i16
-    requires { at < record_length }
-    ensures { result ≡ to_z w16 (slice_index part.now at + slice_index part.now (at + 1) * 256) }
-{
-    i16::from_le_bytes([byte_of(part, at), byte_of(part, at + 1)])
-}
-
-// The signed number in four bytes of a part of a record.
-fn long_at(part: &[u8], at: usize) -> i32
-    requires { at < record_length }
-    ensures { result ≡ to_z w32 (slice_index part.now at + slice_index part.now (at + 1) * 256
-        + slice_index part.now (at + 2) * 65536 + slice_index part.now (at + 3) * 16777216) }
-{
-    i32::from_le_bytes([
-        byte_of(part, at),
-        byte_of(part, at + 1),
-        byte_of(part, at + 2),
-        byte_of(part, at + 3),
-    ])
+    rules.iter().position(Option::is_none)
 }

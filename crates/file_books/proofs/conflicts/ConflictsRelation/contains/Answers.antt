@@ -1,9 +1,9 @@
 use Rattle.std.proofs.Common.{arith}
 use Rattle.std.proofs.lemmas.Bool.Decides.{nat_tests}
 use Rattle.file_books.proofs.Conflicting.{no_conflict_past}
-use Rattle.file_books.proofs.conflicts.Conflicts.of.Goals as goal
+use Rattle.file_books.proofs.conflicts.ConflictsRelation.contains.Goals as goal
 
 pub returns-in-None : goal.returns-in-None
 returns-in-None c =
     let missed = c.in-None.ensures.lookup in
-    λ j b. no_conflict_past c.args.self.now c.args.option c.args.value j b (grind (arith, nat_tests))
+    no_conflict_past c.args.self.now c.args.option c.args.value c.args.other c.args.partner (grind (arith, nat_tests))
