@@ -4,3 +4,4 @@ pub mod Choosing
 pub mod BlockWeights
 pub mod CountWeights
 pub mod PriceRecords
+pub mod Stored
