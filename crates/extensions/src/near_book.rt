@@ -40,6 +40,7 @@ impl Book for NearBook {
         self.options
     }
 
+    #[tactic(auto, using(value_set::proofs::Bits::has_none))]
     fn values(&self, option: usize) -> ValueSet {
         if option < self.options {
             ValueSet::first(self.count)
@@ -48,6 +49,7 @@ impl Book for NearBook {
         }
     }
 
+    #[tactic(auto, using(value_set::proofs::Bits::has_none))]
     fn row(&self, option: usize, value: u8, other: usize) -> ValueSet {
         if option == other || !self.values(option).contains(value) {
             return ValueSet::EMPTY;
