@@ -22,12 +22,13 @@ with_letter b c = record {
 }
 
 module _ (file : List ℕ) where
-  pub none_yet : CountsBefore file 0 (record { domains = 0; rows = 0; inequalities = 0; prices = 0 })
-  none_yet = record {
-    domains = sym (count_before_none file o_letter);
-    rows = sym (count_before_none file r_letter);
-    inequalities = sym (count_before_none file l_letter);
-    prices = sym (count_before_none file p_letter);
+  pub none_yet :
+      (c : Counts) → (c.domains ≡ 0) × ((c.rows ≡ 0) × ((c.inequalities ≡ 0) × (c.prices ≡ 0))) → CountsBefore file 0 c
+  none_yet c e = record {
+    domains = e.0 ∙ sym (count_before_none file o_letter);
+    rows = e.1.0 ∙ sym (count_before_none file r_letter);
+    inequalities = e.1.1.0 ∙ sym (count_before_none file l_letter);
+    prices = e.1.1.1 ∙ sym (count_before_none file p_letter);
   }
 
   module _ (k : ℕ) where

@@ -4,7 +4,7 @@ ghost use Rattle.file_report.specs.Tallies.{CountsBefore};
 
 use record_file::{RECORD_LENGTH, Record};
 
-#[derive(Clone, Copy, PartialEq, Eq, Debug)]
+#[derive(Clone, Copy, PartialEq, Eq, Default, Debug)]
 pub struct Counts {
     pub domains: usize,
     pub rows: usize,
@@ -15,12 +15,8 @@ pub struct Counts {
 pub fn count_records(file: &[u8]) -> Counts
     ensures { CountsBefore file.now (whole_records file.now) result }
 {
-    let mut counts = Counts {
-        domains: 0,
-        rows: 0,
-        inequalities: 0,
-        prices: 0,
-    };
+    let mut counts = Counts::default();
+    // Records are read by their numbers.
     for number in 0..file.len() / RECORD_LENGTH {
         match Record::read(file, number) {
             Some(Record::Domain { .. }) => counts.domains += 1,

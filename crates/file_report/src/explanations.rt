@@ -17,10 +17,12 @@ fn unknown_reference(byte: u8) -> &'static str
     }
 }
 
+// Each sentence stands in the program as it is, so a caller needs no formatter and no memory to get it.
 pub fn explanation(fault: &Fault) -> &'static str
     ensures { result.now ≡ explained fault.now.rule fault.now.byte }
 {
-    match fault.rule {
+    let Fault { rule, byte, .. } = *fault;
+    match rule {
         Rule::TooLong => "The file is longer than 40,960 bytes.",
         Rule::PartialRecord =>
             "The file ends in the middle of a record: its length is not a multiple of 16.",
@@ -30,7 +32,7 @@ pub fn explanation(fault: &Fault) -> &'static str
             "The O record follows another kind, or its number is not the next one, or there are twelve options already."
         }
         Rule::ValueCount => "The O record gives its option no value, or more than 32.",
-        Rule::UnknownReference => unknown_reference(fault.byte),
+        Rule::UnknownReference => unknown_reference(byte),
         Rule::MaskBeyondValues => "The mask at byte 4 has a value that the option at byte 3 lacks.",
         Rule::ReservedByte => "A byte of the record that must be zero is not.",
         Rule::Duplicate =>

@@ -7,7 +7,7 @@ use Rattle.file_report.proofs.counts.count_records.Goals.{in-Some-Domain, in-Som
 use Rattle.file_report.proofs.counts.count_records.Goals.{in-Some-Price, in-None}
 
 pub loop-number-init : goal.loop-number-init
-loop-number-init c = none_yet c.args.file.now
+loop-number-init c = none_yet c.args.file.now c.default-counts.result c.default-counts.ensures
 
 -- so far a count is at most the number of records read
 pub overflow_add-counts : goal.overflow_add-counts
