@@ -1,116 +1,107 @@
--- The cheapest of the values that are passed. Assumes nothing.
-use Rattle.std.proofs.Common.{◌≡◌, ℕ, ◌<◌, ◌≤◌, Bool, true, false, cond, not, ◌&&◌, eqb, leb, Some, None, Option, sym, refl, ap, ◌∙◌, subst, ⊎_elim, le_of_eq, arith, MatchOption}
-use Rattle.std.proofs.lemmas.Bool.{and_parts, cases_Bool, cases_eq, cases_order, leb-true, leb-false, true≢false}
+-- The cheapest of a list of priced values. Assumes nothing.
+use Rattle.std.proofs.Common.{◌≡◌, ℕ, suc, ◌<◌, Bool, true, cond, ltb, Some, None, Option, List, [], ◌∷◌, map, length, get_or, sym, refl, ap, ap₂, ◌∙◌, subst, ⊎_elim, arith, MatchOption}
+use Rattle.std.specs.Fn.{Called}
+use Rattle.std.specs.Iterator.{ReducesItems, FoldTurn}
+use Rattle.std.specs.List.{FoldsTo, IsFirstBest, fold, reduce, best_of}
+use Rattle.std.proofs.lemmas.Iterator.{YieldsList}
+use Rattle.std.proofs.lemmas.Iterator.Consumers.{reduce_from_yields_List}
+use Rattle.std.proofs.lemmas.Bool.{cases_Bool, ltb-true, ltb-false}
 use Rattle.std.proofs.lemmas.Bool.Decides.{nat_tests}
-use Rattle.value_set.specs.Members.{Least}
+use Rattle.std.proofs.lemmas.List.{get_or-map, length-map}
+use Rattle.std.proofs.lemmas.List.MinMax.{IsStrictWeakOrder-by_number, IsFirstBest-from_best_of}
+use denote.Param.Members.{Mut}
+use Rattle.value_set.specs.Members.{count_below, list_below, Placed}
+use Rattle.value_set.proofs.Counts.{count_in, count_some, count_up}
+use Rattle.value_set.proofs.Lists.{length_list, list_places, place_of}
 use Rattle.book_report.specs.declared.cheapest.Cheapest.{Cheapest}
 use Rattle.book_report.specs.Cheapest.{CheapestOf, NoValue, cheaper}
 
--- of the values that pass p and are not left, c is the cheapest, and those that are left come after it
-pub record CheapestYet (p left : ℕ → Bool) (price : ℕ → ℕ) (c : Cheapest) : Type 0 where
-  pub there : p c.value ≡ true
-  pub cost : c.price ≡ price c.value
-  pub cheapest : (v : ℕ) → p v ≡ true → left v ≡ false → c.price ≤ price v
-  pub least : (v : ℕ) → v < c.value → p v ≡ true → left v ≡ false → c.price < price v
-  pub after : (v : ℕ) → left v ≡ true → c.value < v
+-- the first unless the second costs less
+abbrev chosen : Cheapest → Cheapest → Cheapest
+chosen b c = cheaper (Some b) c
 
--- what is found once only the values of left are left
-pub record Found (p left : ℕ → Bool) (price : ℕ → ℕ) (r : Option Cheapest) : Type 0 where
-  pub within : (v : ℕ) → left v ≡ true → p v ≡ true
-  pub found : MatchOption r ((v : ℕ) → p v ≡ true → left v ≡ true) (CheapestYet p left price)
+abbrev pub priced : (ℕ → ℕ) → ℕ → Cheapest
+priced price v = record { value = v; price = price v }
 
-pub found_none : (p : ℕ → Bool) (price : ℕ → ℕ) → Found p p price None
-found_none p price = record { within = λ v h. h; found = λ v h. h }
+-- ---- what `reduce` gives of a chain's list
 
-module _ (p left rest : ℕ → Bool) (price : ℕ → ℕ) (c : Cheapest) (l : Least left c.value)
-    (without : (v : ℕ) → rest v ≡ (left v && not (eqb v c.value))) where
-  -- what was left is still left, or is the value that comes
-  one_gone : (v : ℕ) → left v ≡ true → rest v ≡ false → v ≡ c.value
-  one_gone v h gone =
-      let w = without v in
-      ⊎_elim (λ e. e) (λ ne. absurd (grind (arith, nat_tests))) (cases_eq v c.value)
+module _ {F : Type 0} (g : Mut F (Cheapest × (Cheapest × Unit {0})) Cheapest)
+    (chooses : (p : F) (b c r : Cheapest) (q : F) → Called g p (b, (c, tt)) r q → r ≡ chosen b c) where
+  turns : (xs : List Cheapest) (p q : F × Cheapest) → FoldsTo (FoldTurn g) p xs q → FoldsTo (λ b c r. r ≡ chosen b c) p.1 xs q.1
+  turns [] p q e = ap (λ z. z.1) e
+  turns (x ∷ xs) p q (m, called, rest) = (m.1, chooses p.0 p.1 x m.1 m.0 called, turns xs m q rest)
 
-  still : (v : ℕ) → rest v ≡ true → left v ≡ true
-  still v h = (and_parts (left v) (not (eqb v c.value)) (sym (without v) ∙ h)).0
+  pub reduced :
+      {S : Type 0} {steps : S → Option Cheapest → S → Type 0} (s : S) (f : F) {all : List Cheapest} (r : Option Cheapest) →
+      ReducesItems steps g s f r →
+      YieldsList steps (λ x. x) s all →
+      r ≡ reduce chosen all
+  reduced s f None ran road = reduce_from_yields_List chosen s None ran road
+  reduced s f (Some c) (x, xs, q, drains, ran) road =
+      reduce_from_yields_List chosen s (Some c) (x, xs, drains, turns xs (f, x) (q, c) ran) road
 
-  later : (v : ℕ) → rest v ≡ true → c.value < v
-  later v h =
-      let w = without v in
+-- ---- the first of the cheapest ones of a list
+
+same_choice : (b c : Cheapest) → chosen b c ≡ cond (ltb c.price b.price) c b
+same_choice b c = grind (arith, nat_tests)
+
+same_best : (b : Cheapest) (xs : List Cheapest) → fold chosen b xs ≡ best_of (λ x y. ltb x.price y.price) b xs
+same_best b [] = refl
+same_best b (x ∷ xs) =
+    ap (λ k. fold chosen k xs) (same_choice b x) ∙ same_best (cond (ltb x.price b.price) x b) xs
+
+module _ (n : ℕ) (p : ℕ → Bool) (price : ℕ → ℕ) (low : (v : ℕ) → p v ≡ true → v < n) where
+  none_found : [] ≡ list_below n p → NoValue p
+  none_found is = λ v.
       ⊎_elim
-      (λ same. absurd (grind (arith, nat_tests)))
-      (⊎_elim (λ less. absurd (true≢false (sym (still v h) ∙ l.least v less))) (λ more. more))
-      (cases_order v c.value)
+      (λ there. absurd (omega (arith, count_some n p v (low v there) there, length_list n p, ap length is)))
+      (λ missing. missing)
+      (cases_Bool (p v))
 
-  -- c is all that is passed
-  first : ((v : ℕ) → p v ≡ true → left v ≡ true) → p c.value ≡ true → c.price ≡ price c.value → CheapestYet p rest price c
-  first all there cost = record {
-    there = there;
-    cost = cost;
-    cheapest = λ v h gone. le_of_eq (cost ∙ ap price (sym (one_gone v (all v h) gone)));
-    least = λ v lt h gone. absurd (omega (arith, one_gone v (all v h) gone));
-    after = later;
-  }
+  module _ (vs : List ℕ) (is : vs ≡ list_below n p) where
+    place_within : (v : ℕ) → p v ≡ true → count_below v p < length vs
+    place_within v h = omega (arith, ap length is, length_list n p, count_in v p h, count_up (suc v) n p (low v h))
 
-  module _ (b : Cheapest) (y : CheapestYet p left price b) (cost : c.price ≡ price c.value) where
-    keeps : b.price ≤ c.price → CheapestYet p rest price b
-    keeps le = record {
-      there = y.there;
-      cost = y.cost;
-      cheapest = λ v h gone.
-          ⊎_elim
-          (λ was. omega (arith, cost ∙ ap price (sym (one_gone v was gone))))
-          (λ passed. y.cheapest v h passed)
-          (cases_Bool (left v));
-      least = λ v lt h gone.
-          ⊎_elim (λ was. absurd (omega (arith, y.after v was))) (λ passed. y.least v lt h passed) (cases_Bool (left v));
-      after = λ v h. y.after v (still v h);
-    }
+    at_place : (v : ℕ) → p v ≡ true → get_or (map (priced price) vs) (count_below v p) (priced price 0) ≡ priced price v
+    at_place v h =
+        get_or-map (priced price) vs (count_below v p) 0 (priced price 0) (place_within v h)
+        ∙ ap (λ l. priced price (get_or l (count_below v p) 0)) is
+        ∙ ap (priced price) (place_of n p v (low v h) h)
 
-    takes : p c.value ≡ true → c.price < b.price → CheapestYet p rest price c
-    takes there less = record {
-      there = there;
-      cost = cost;
-      cheapest = λ v h gone.
-          ⊎_elim
-          (λ was. le_of_eq (cost ∙ ap price (sym (one_gone v was gone))))
-          (λ passed. omega (arith, y.cheapest v h passed))
-          (cases_Bool (left v));
-      least = λ v lt h gone.
-          ⊎_elim
-          (λ was. absurd (omega (arith, one_gone v was gone)))
-          (λ passed. omega (arith, y.cheapest v h passed))
-          (cases_Bool (left v));
-      after = later;
-    }
+    found :
+        (k : ℕ) →
+        k < length vs →
+        IsFirstBest (λ x y. ltb x.price y.price) (map (priced price) vs) (length vs) k →
+        CheapestOf p price (priced price (get_or vs k 0))
+    found k inside best =
+        let w = get_or vs k 0 in
+        let placed : Placed n p k w =
+        subst (λ l. Placed n p k (get_or l k 0)) (sym is) (list_places n p k (omega (arith, ap length is, length_list n p))) in
+        let here = get_or-map (priced price) vs k 0 (priced price 0) inside in
+        record {
+          there = placed.there;
+          cost = refl;
+          cheapest = λ v h.
+              ltb-false _ _
+              (ap₂ (λ x y. ltb x.price y.price) (sym (at_place v h)) (sym here) ∙ best.1 (count_below v p) (priced price 0) (place_within v h));
+          least = λ v lt h.
+              ltb-true _ _
+              (ap₂ (λ x y. ltb x.price y.price) (sym here) (sym (at_place v h))
+              ∙ best.2 (count_below v p) (priced price 0) (omega (arith, placed.before, count_in v p h, count_up (suc v) w p lt)));
+        }
 
-    chosen : p c.value ≡ true → (t : Bool) → leb b.price c.price ≡ t → CheapestYet p rest price (cond t b c)
-    chosen there true e = keeps (leb-true _ _ e)
-    chosen there false e = takes there (leb-false _ _ e)
-
-  found_cheaper : (found : Option Cheapest) → c.price ≡ price c.value → Found p left price found
-      → Found p rest price (Some (cheaper found c))
-  found_cheaper None cost f = record {
-    within = λ v h. f.within v (still v h);
-    found = first f.found (f.within c.value l.there) cost;
-  }
-  found_cheaper (Some b) cost f = record {
-    within = λ v h. f.within v (still v h);
-    found = chosen b f.found cost (f.within c.value l.there) (leb b.price c.price) refl;
-  }
-
-  -- one value more
-  pub found_one : (found : Option Cheapest) (r : Cheapest) → c.price ≡ price c.value → r ≡ cheaper found c
-      → Found p left price found → Found p rest price (Some r)
-  found_one found r cost is f = subst (λ k. Found p rest price (Some k)) (sym is) (found_cheaper found cost f)
-
--- once none is left
-pub found_all : (p left : ℕ → Bool) (price : ℕ → ℕ) (found : Option Cheapest) → NoValue left → Found p left price found
-    → MatchOption found (NoValue p) (CheapestOf p price)
-found_all p left price None none f = λ v.
-    ⊎_elim (λ there. absurd (true≢false (sym (f.found v there) ∙ none v))) (λ missing. missing) (cases_Bool (p v))
-found_all p left price (Some c) none f = record {
-  there = f.found.there;
-  cost = f.found.cost;
-  cheapest = λ v h. f.found.cheapest v h (none v);
-  least = λ v lt h. f.found.least v lt h (none v);
-}
+  pub cheapest_listed :
+      (vs : List ℕ) (r : Option Cheapest) →
+      vs ≡ list_below n p →
+      r ≡ reduce chosen (map (priced price) vs) →
+      MatchOption r (NoValue p) (CheapestOf p price)
+  cheapest_listed [] r is e = subst (λ r. MatchOption r (NoValue p) (CheapestOf p price)) (sym e) (none_found is)
+  cheapest_listed (v ∷ vs) r is e =
+      let first = priced price v in
+      let best = IsFirstBest-from_best_of (IsStrictWeakOrder-by_number (λ (c : Cheapest). c.price)) first (map (priced price) vs) in
+      let long = length-map vs (priced price) in
+      let inside : best.0 < length (v ∷ vs) = omega (arith, best.1.0, long) in
+      let is_first = subst (λ m. IsFirstBest (λ x y. ltb x.price y.price) (map (priced price) (v ∷ vs)) (suc m) best.0) long best.1 in
+      let same = same_best first (map (priced price) vs) ∙ sym best.2 ∙ get_or-map (priced price) (v ∷ vs) best.0 0 first inside in
+      subst (λ r. MatchOption r (NoValue p) (CheapestOf p price)) (sym (e ∙ ap Some same))
+      (found (v ∷ vs) is best.0 inside is_first)

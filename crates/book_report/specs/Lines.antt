@@ -14,6 +14,10 @@ pair_text option other together all =
     ++ codes " of "
     ++ decimal all
 
+-- as in: value 3 at 1
+abbrev pub value_text : ℕ → ℕ → List ℕ
+value_text value price = codes "value " ++ decimal value ++ codes " at " ++ decimal price
+
 -- as in: cheapest of option 0: value 3 at 1
 abbrev pub found_text : ℕ → ℕ → ℕ → List ℕ
 found_text option value price =

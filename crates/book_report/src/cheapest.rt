@@ -1,5 +1,5 @@
 // The cheapest value of an option.
-ghost use Rattle.std.specs.Prelude.{◌≡◌, MatchOption};
+ghost use Rattle.std.specs.Prelude.{◌≡◌, Some, MatchOption};
 ghost use Rattle.value_set.specs.Members.{member, NoMember};
 ghost use Rattle.measure.specs.Tariffs.{price_of, asked_price};
 ghost use Rattle.rule_book.specs.Books.{in_set};
@@ -30,27 +30,22 @@ fn cheapest_of(values: ValueSet, tariff: &Tariff, option: usize) -> Option<Cheap
     ensures { MatchOption result (NoMember values) (CheapestOf (member values)
         (asked_price (price_of tariff.now.prices) option)) }
 {
-    let mut found = None;
-    for value in values.values() {
-        let next = Cheapest {
+    values
+        .values()
+        .map(|value| Cheapest {
             value,
             price: tariff.price(option, value),
-        };
-        found = Some(cheaper_of(found, next));
-    }
-    found
+        })
+        .reduce(cheaper_of)
 }
 
-// The first unless the second costs less.
-fn cheaper_of(first: Option<Cheapest>, second: Cheapest) -> Cheapest
-    ensures { result ≡ cheaper first second }
+// The first unless the second costs less: which of two at one price stays is said here, and left to no library method.
+fn cheaper_of(first: Cheapest, second: Cheapest) -> Cheapest
+    ensures { result ≡ cheaper (Some first) second }
 {
-    match first {
-        Some(first) => if first.price <= second.price {
-            first
-        } else {
-            second
-        },
-        None => second,
+    if first.price <= second.price {
+        first
+    } else {
+        second
     }
 }

@@ -1,10 +1,12 @@
 // The lines that are printed about a book.
-ghost use Rattle.std.specs.Prelude.{◌≡◌, IfOk, string_bytes};
-ghost use Rattle.book_report.specs.Lines.{pair_text, found_text, none_text, cheapest_text};
+ghost use Rattle.std.specs.Prelude.{◌≡◌, IfOk, Some, string_bytes};
+ghost use Rattle.book_report.specs.Lines.{pair_text, value_text, cheapest_text};
 
 use crate::cheapest::Cheapest;
 use std::alloc::{AllocError, Global};
+use std::fmt;
 
+// One `format!`. The parameters are what stands in the line, and the memory for it.
 pub fn pair_line(
     heap: Global,
     option: usize,
@@ -17,6 +19,15 @@ pub fn pair_line(
     format!(in heap; "pair {option} {other}: {together} of {in_all}")
 }
 
+impl fmt::Display for Cheapest {
+    ghost output = { λ c. Some (value_text c.value c.price) };
+
+    fn fmt<W: fmt::Write>(&self, f: &mut fmt::Formatter<W>) -> fmt::Result {
+        let Cheapest { value, price } = *self;
+        write!(f, "value {value} at {price}")
+    }
+}
+
 pub fn cheapest_line(
     heap: Global,
     option: usize,
@@ -25,19 +36,7 @@ pub fn cheapest_line(
     ensures { IfOk result (λ s. string_bytes s ≡ cheapest_text option cheapest) }
 {
     match cheapest {
-        Some(cheapest) => found_line(heap, option, cheapest.value, cheapest.price),
-        None => none_line(heap, option),
+        Some(cheapest) => format!(in heap; "cheapest of option {option}: {cheapest}"),
+        None => format!(in heap; "cheapest of option {option}: none"),
     }
-}
-
-fn found_line(heap: Global, option: usize, value: u8, price: u64) -> Result<String, AllocError>
-    ensures { IfOk result (λ s. string_bytes s ≡ found_text option value price) }
-{
-    format!(in heap; "cheapest of option {option}: value {value} at {price}")
-}
-
-fn none_line(heap: Global, option: usize) -> Result<String, AllocError>
-    ensures { IfOk result (λ s. string_bytes s ≡ none_text option) }
-{
-    format!(in heap; "cheapest of option {option}: none")
 }
