@@ -1,26 +1,21 @@
 // A bounded read of an input that need not end.
-ghost use Rattle.std.specs.Prelude.{◌≤◌, IfOk, vec_len};
+ghost use Rattle.std.specs.Prelude.{◌≡◌, ◌≤◌, IfOk, OnOk, IfSome, take, vec_len, vec_items};
 
 use std::alloc::Global;
 use std::io;
-use std::io::{ErrorKind, Read};
+use std::io::Read;
 
-// The input up to its end, or its first `limit` bytes. A pipe gives as few bytes at a time as it likes, so reads go on
-// until one gives none: at the end of the input, or where no room is left.
+// The input up to its end, or its first `limit` bytes.
 pub fn read_at_most<R: Read>(heap: Global, input: &mut R, limit: usize) -> io::Result<Vec<u8>>
-    ensures { IfOk result (λ bytes. vec_len bytes ≤ limit) }
+    ensures bound { IfOk result (λ bytes. vec_len bytes ≤ limit) }
+    ensures first { IfOk result (λ bytes.
+        IfSome (R.remaining input.old) (λ all. vec_items bytes ≡ take limit all)) }
 {
-    let mut bytes = vec![in heap; 0; limit]?;
-    let mut filled = 0;
-    for _ in 0..u64::MAX {
-        match input.read(&mut bytes[filled..]) {
-            Ok(0) => break,
-            Ok(more) => filled += more,
-            Err(error) if error.kind() == ErrorKind::Interrupted => {}
-            Err(error) => return Err(error),
-        }
-    }
-    bytes.truncate(filled);
+    // Room for one byte more, so that the read that finds the end need not make any.
+    let mut bytes = Vec::with_capacity(heap, limit.saturating_add(1))?;
+    input.take(limit as u64).read_to_end(&mut bytes)?;
+    // No more than `limit` bytes have come, which `read_to_end` does not say.
+    bytes.truncate(limit);
     Ok(bytes)
 }
 

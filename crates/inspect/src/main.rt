@@ -1,8 +1,6 @@
 // Prints what a record file on standard input holds, or why it is refused.
 #![tactic(auto)]
 
-ghost use Rattle.std.specs.Prelude.{◌≡◌};
-
 mod input;
 
 use file_report::{count_records, counts_line, explanation, option_line, refusal_line};
@@ -11,6 +9,7 @@ use record_file::{Fault, LONGEST_FILE, RECORD_LENGTH, Record};
 use std::io;
 
 fn print_book(rt: &HostRuntime, file: &[u8]) -> io::Result<()> {
+    // Records are read by their numbers.
     for number in 0..file.len() / RECORD_LENGTH {
         if let Some(
             Record::Domain {
@@ -38,19 +37,15 @@ fn print_report(rt: &HostRuntime, file: &[u8]) -> io::Result<()> {
     }
 }
 
-// Says on standard error what failed, and hands the result on.
-fn told<T>(rt: &HostRuntime, deed: &str, res: io::Result<T>) -> io::Result<T>
-    ensures { result ≡ res }
-{
-    if let Err(error) = &res {
-        let _ = eprintln!(rt; "inspect: cannot {deed}: {error}");
-    }
-    res
+// Says on standard error what failed.
+fn tell(rt: &HostRuntime, deed: &str, error: &io::Error) {
+    let _ = eprintln!(rt; "inspect: cannot {deed}: {error}");
 }
 
 fn main(rt: HostRuntime) -> io::Result<()> {
     // One byte more than the longest file tells a file that is too long, and an endless input is read no further.
     let input = read_at_most(rt.alloc(), &mut rt.stdin(), LONGEST_FILE + 1);
-    let file = told(&rt, "read standard input", input)?;
-    told(&rt, "write to standard output", print_report(&rt, &file))
+    let file = input.inspect_err(|error| tell(&rt, "read standard input", error))?;
+    let printed = print_report(&rt, &file);
+    printed.inspect_err(|error| tell(&rt, "write to standard output", error))
 }
