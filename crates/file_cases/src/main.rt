@@ -1,43 +1,32 @@
 // Runs the check of a record file over the table of cases on standard input, and then over files made by rule.
 #![tactic(auto)]
 
-mod layout;
 mod made;
+mod runner;
 mod table;
-mod tally;
 mod unreadable;
 mod verdicts;
 mod words;
 
+use case_count::Count;
 use record_file::worked_examples;
+use runner::Runner;
 use std::io;
-use table::Case;
-use tally::Count;
 
 fn main(rt: HostRuntime) -> io::Result<()> {
     let text = io::read_to_string(rt.alloc(), rt.stdin())?;
-    let mut count = Count::new();
-    for line in text.as_str().lines() {
-        if !line.is_empty() && !line.starts_with("#") {
-            run_line(&rt, &mut count, line)?;
-        }
+    let mut runner = Runner::new(&rt);
+    for line in text.as_str().lines().filter(|line| is_case(line)) {
+        runner.run_line(line)?;
     }
-    made::run(&rt, &mut count)?;
+    made::run(&mut runner)?;
     let proved = worked_examples();
     println!(rt; "{proved} examples worked by hand are proved of the rules")?;
-    println!(rt; "{count}")
+    let Count { cases, wrong } = runner.count();
+    println!(rt; "{cases} cases, {wrong} wrong")
 }
 
-fn run_line(rt: &HostRuntime, count: &mut Count, line: &str) -> io::Result<()> {
-    match Case::read(rt.alloc(), line) {
-        Ok(case) => {
-            let outcome = count.run(case.bytes.as_slice(), case.expected);
-            let label = case.label;
-            println!(rt; "{label}: {outcome}")
-        }
-        Err(why) => {
-            count.add_failure();
-            println!(rt; "unreadable: {line} ({why})")
-        }
-    }
+// Empty lines and comments stand between the cases.
+fn is_case(line: &str) -> bool {
+    !line.is_empty() && !line.starts_with("#")
 }

@@ -1,11 +1,12 @@
 // A line of the table: LABEL | EXPECTED | RECORDS, with '; ' between records.
 ghost use Rattle.std.specs.Prelude.{◌<◌, IfOk};
 
-use crate::layout::{NAME_LENGTH, Record};
 use crate::unreadable::Unreadable;
 use crate::verdicts::Verdict;
 use crate::words::Words;
+use case_records::{NAME_LENGTH, NO_NAME, Record};
 use std::alloc::Global;
+use std::iter;
 
 #[derive(Drop)]
 pub struct Case<'a> {
@@ -15,10 +16,11 @@ pub struct Case<'a> {
 }
 
 impl<'a> Case<'a> {
+    // A function, and no FromStr, which is not given the memory for the bytes.
     pub fn read(heap: Global, line: &'a str) -> Result<Case<'a>, Unreadable> {
         let (label, rest) = line.split_once(" | ").ok_or(Unreadable::FewerFields)?;
         let (expected, records) = rest.split_once(" | ").ok_or(Unreadable::FewerFields)?;
-        let expected = Verdict::read(expected)?;
+        let expected = expected.parse::<Verdict>()?;
         let mut bytes = Vec::new(heap);
         for text in records.split("; ") {
             append_item(heap, &mut bytes, text)?;
@@ -45,8 +47,9 @@ fn append_item(heap: Global, bytes: &mut Vec<u8>, text: &str) -> Result<(), Unre
     Ok(())
 }
 
+// The words are matched here, since each form reads the rest of the line in a way of its own.
 fn append_form(bytes: &mut Vec<u8>, text: &str) -> Result<(), Unreadable> {
-    let mut words = Words::of(text);
+    let mut words = Words::from(text);
     match words.word()? {
         "bytes" => append_hex(bytes, words),
         "zeros" => append_zeros(bytes, words),
@@ -65,12 +68,13 @@ fn append_hex(bytes: &mut Vec<u8>, words: Words) -> Result<(), Unreadable> {
 }
 
 fn hex_byte(pair: &[u8]) -> Result<u8, Unreadable> {
-    let [high, low] = pair else {
+    let &[high, low] = pair else {
         return Err(Unreadable::BadHex);
     };
-    Ok(hex_digit(*high)? * 16 + hex_digit(*low)?)
+    Ok(hex_digit(high)? * 16 + hex_digit(low)?)
 }
 
+// By hand, since from_str_radix takes capital letters and signs too.
 fn hex_digit(digit: u8) -> Result<u8, Unreadable>
     ensures { IfOk result (λ value. value < 16) }
 {
@@ -84,9 +88,7 @@ fn hex_digit(digit: u8) -> Result<u8, Unreadable>
 fn append_zeros(bytes: &mut Vec<u8>, mut words: Words) -> Result<(), Unreadable> {
     let count: u32 = words.number()?;
     words.end()?;
-    for _ in 0..count {
-        bytes.push(0)?;
-    }
+    bytes.extend(iter::repeat_n(0, count as usize))?;
     Ok(())
 }
 
@@ -94,37 +96,28 @@ fn append_options(bytes: &mut Vec<u8>, mut words: Words) -> Result<(), Unreadabl
     let options: u8 = words.number()?;
     let count = words.number()?;
     words.end()?;
-    for number in 0..options {
-        bytes.extend_from_slice(&Record::unnamed(number, count).bytes())?;
-    }
+    let records = (0..options).map(|number| Record::Domain(number, count, NO_NAME));
+    bytes.extend(records.flat_map(Record::bytes))?;
     Ok(())
 }
 
 fn append_record(bytes: &mut Vec<u8>, letter: &str, mut words: Words) -> Result<(), Unreadable> {
     let record = match letter {
-        "O" => Record::Domain {
-            number: words.number()?,
-            count: words.number()?,
-            name: name_of(words.word()?)?,
-        },
-        "R" => Record::Row {
-            i: words.number()?,
-            a: words.number()?,
-            j: words.number()?,
-            mask: words.number()?,
-        },
-        "L" => Record::Inequality {
-            i: words.number()?,
-            j: words.number()?,
-            p: words.number()?,
-            q: words.number()?,
-            c: words.number()?,
-        },
-        "P" => Record::Price {
-            option: words.number()?,
-            value: words.number()?,
-            price: words.number()?,
-        },
+        "O" => Record::Domain(words.number()?, words.number()?, name_of(words.word()?)?),
+        "R" => Record::Row(
+            words.number()?,
+            words.number()?,
+            words.number()?,
+            words.number()?,
+        ),
+        "L" => Record::Inequality(
+            words.number()?,
+            words.number()?,
+            words.number()?,
+            words.number()?,
+            words.number()?,
+        ),
+        "P" => Record::Price(words.number()?, words.number()?, words.number()?),
         _ => return Err(Unreadable::UnknownForm),
     };
     words.end()?;
@@ -133,15 +126,10 @@ fn append_record(bytes: &mut Vec<u8>, letter: &str, mut words: Words) -> Result<
 }
 
 fn name_of(word: &str) -> Result<[u8; NAME_LENGTH], Unreadable> {
-    let mut name = [0; NAME_LENGTH];
-    if word == "-" {
-        return Ok(name);
-    }
-    if word.len() > NAME_LENGTH {
-        return Err(Unreadable::LongName);
-    }
-    for (place, byte) in name.iter_mut().zip(word.bytes()) {
-        *place = byte;
+    let mut name = NO_NAME;
+    if word != "-" {
+        let start = name.get_mut(..word.len()).ok_or(Unreadable::LongName)?;
+        start.copy_from_slice(word.as_bytes());
     }
     Ok(name)
 }

@@ -36,7 +36,7 @@ impl<T: Drop> From<AllocFailed<T>> for Unreadable {
 
 impl fmt::Display for Unreadable {
     fn fmt<W: fmt::Write>(&self, f: &mut fmt::Formatter<W>) -> fmt::Result {
-        let why = match self {
+        f.write_str(match self {
             Unreadable::FewerFields => "fewer than three fields",
             Unreadable::FewerWords => "a word is missing",
             Unreadable::MoreWords => "a word too many",
@@ -46,7 +46,6 @@ impl fmt::Display for Unreadable {
             Unreadable::UnknownForm => "no such form of record",
             Unreadable::UnknownVerdict => "no such verdict",
             Unreadable::Memory => "no memory",
-        };
-        write!(f, "{why}")
+        })
     }
 }

@@ -4,19 +4,17 @@ use std::num::ParseIntError;
 use std::str::{FromStr, SplitWhitespace};
 
 #[derive(Drop)]
-pub struct Words<'a> {
-    rest: SplitWhitespace<'a>,
+pub struct Words<'a>(SplitWhitespace<'a>);
+
+impl<'a> From<&'a str> for Words<'a> {
+    fn from(text: &'a str) -> Words<'a> {
+        Words(text.split_whitespace())
+    }
 }
 
 impl<'a> Words<'a> {
-    pub fn of(text: &'a str) -> Words<'a> {
-        Words {
-            rest: text.split_whitespace(),
-        }
-    }
-
     pub fn word(&mut self) -> Result<&'a str, Unreadable> {
-        self.rest.next().ok_or(Unreadable::FewerWords)
+        self.0.next().ok_or(Unreadable::FewerWords)
     }
 
     pub fn number<N: FromStr<Err = ParseIntError>>(&mut self) -> Result<N, Unreadable> {
@@ -24,12 +22,12 @@ impl<'a> Words<'a> {
     }
 
     pub fn rest(self) -> SplitWhitespace<'a> {
-        self.rest
+        self.0
     }
 
     // To be called once all that is expected was read.
     pub fn end(mut self) -> Result<(), Unreadable> {
-        match self.rest.next() {
+        match self.0.next() {
             Some(_) => Err(Unreadable::MoreWords),
             None => Ok(()),
         }
