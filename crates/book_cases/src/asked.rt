@@ -1,8 +1,8 @@
 // The questions that are asked of a book.
+use crate::group::Group;
+use crate::question::{Choice, Question};
 use crate::reading::{Reading, row_of, set_of};
-use crate::tally::{Group, Question};
 use rule_book::Book;
-use std::alloc::{AllocError, Global};
 
 // Every option that is asked about goes with every value and every option.
 #[derive(Clone, Copy)]
@@ -11,39 +11,44 @@ pub struct Asked<'a> {
     pub values: &'a [u8],
 }
 
-const FAR_OPTIONS: [usize; 5] = [32, 255, 256, 1 << 32, usize::MAX];
-
-const FAR_VALUES: [u8; 3] = [64, 128, 255];
-
-// Every option within the limits, and some beyond.
-pub fn all_options(heap: Global) -> Result<Vec<usize>, AllocError> {
-    let mut options = Vec::new(heap);
-    for option in 0..=13 {
-        options.push(option)?;
-    }
-    options.extend_from_slice(&FAR_OPTIONS)?;
-    Ok(options)
-}
-
-// Every value within the limits, and some beyond.
-pub fn all_values(heap: Global) -> Result<Vec<u8>, AllocError> {
-    let mut values = Vec::new(heap);
-    for value in 0..=33 {
-        values.push(value)?;
-    }
-    values.extend_from_slice(&FAR_VALUES)?;
-    Ok(values)
-}
+// Every option and value within the limits, and some beyond.
+pub const EVERY: Asked<'static> = Asked {
+    options: &[
+        0,
+        1,
+        2,
+        3,
+        4,
+        5,
+        6,
+        7,
+        8,
+        9,
+        10,
+        11,
+        12,
+        13,
+        32,
+        255,
+        256,
+        1 << 32,
+        usize::MAX,
+    ],
+    values: &[
+        0, 1, 2, 3, 4, 5, 6, 7, 8, 9, 10, 11, 12, 13, 14, 15, 16, 17, 18, 19, 20, 21, 22, 23, 24,
+        25, 26, 27, 28, 29, 30, 31, 32, 33, 64, 128, 255,
+    ],
+};
 
 impl<'a> Asked<'a> {
     pub fn compare<B: Book, R: Reading>(self, group: &mut Group, book: &B, reading: &R) {
         let options = book.options() as u64;
         group.compare(Question::Options, options, reading.options() as u64);
-        for option in self.options {
-            let set = u64::from(book.values(*option).mask());
-            let expected = u64::from(set_of(reading, *option).mask());
-            group.compare(Question::Values(*option), set, expected);
-            self.compare_rows(group, book, reading, *option);
+        for &option in self.options {
+            let set = u64::from(book.values(option).mask());
+            let expected = u64::from(set_of(reading, option).mask());
+            group.compare(Question::Values(option), set, expected);
+            self.compare_rows(group, book, reading, option);
         }
     }
 
@@ -54,11 +59,12 @@ impl<'a> Asked<'a> {
         reading: &R,
         option: usize,
     ) {
-        for value in self.values {
-            for other in self.options {
-                let row = u64::from(book.row(option, *value, *other).mask());
-                let expected = u64::from(row_of(reading, option, *value, *other).mask());
-                group.compare(Question::Row(option, *value, *other), row, expected);
+        for &value in self.values {
+            let choice = Choice { option, value };
+            for &other in self.options {
+                let row = u64::from(book.row(option, value, other).mask());
+                let expected = u64::from(row_of(reading, choice, other).mask());
+                group.compare(Question::Row(choice, other), row, expected);
             }
         }
     }

@@ -1,21 +1,24 @@
 // Barred books, asked after each bar.
-use crate::asked::Asked;
-use crate::reading::{FileReading, JointReading, Reading, RefusedReading, StruckReading};
+use crate::asked::EVERY;
+use crate::group::Group;
+use crate::question::{Choice, Question};
+use crate::reading::{
+    FileReading, Inequalities, JointReading, Reading, RefusedReading, Rows, StruckReading,
+};
 use crate::samples::MIXED;
-use crate::tally::{Group, Question, Total};
+use crate::session::Session;
 use file_books::{InequalityBook, TableBook};
-use rule_book::{Barred, Book, Joint};
-use std::alloc::{AllocError, Global};
+use rule_book::{BarRefusal, Barred, Book, Joint};
+use std::alloc::AllocError;
 use std::io;
 
-// What came of a bar: the number of the refusal, if it was refused.
-const DONE: u64 = 0;
+const DONE: Result<(), BarRefusal> = Ok(());
 
-const REFUSED: u64 = 13;
+const REFUSED: Result<(), BarRefusal> = Err(BarRefusal::NoSuchValue);
 
 // An option, a value, and what is to come of barring it.
 #[derive(Clone, Copy)]
-struct Bar(usize, u8, u64);
+struct Bar(usize, u8, Result<(), BarRefusal>);
 
 // The options have 4, 4 and 2 values.
 const BARS: [Bar; 24] = [
@@ -54,89 +57,62 @@ const BARS_OF_REFUSED: [Bar; 5] = [
     Bar(1, 0, REFUSED),
 ];
 
-pub fn run(rt: &HostRuntime, asked: Asked, total: &mut Total) -> io::Result<()> {
-    let test = Test {
-        heap: rt.alloc(),
-        asked,
-        bars: &BARS,
-    };
-    let file = MIXED.file(rt.alloc())?;
-    total.report(rt, barred_tables(test, file.as_slice()))?;
-    total.report(rt, barred_inequalities(test, file.as_slice()))?;
-    total.report(rt, barred_joint(test, file.as_slice()))?;
-    total.report(rt, barred_refused(rt.alloc(), asked))
+pub fn run(session: &mut Session) -> io::Result<()> {
+    let file = MIXED.file(session.heap())?;
+    let file = file.as_slice();
+    let rows = FileReading::new(file, Rows);
+    let inequalities = FileReading::new(file, Inequalities);
+    session.run("barred table book", |group| {
+        compare_barred(group, &BARS, TableBook::new(file), &rows)
+    })?;
+    session.run("barred inequality book", |group| {
+        compare_barred(group, &BARS, InequalityBook::new(file), &inequalities)
+    })?;
+    session.run("barred joint book", |group| {
+        let book = Joint::new(TableBook::new(file), InequalityBook::new(file));
+        let reading = JointReading {
+            left: rows,
+            right: inequalities,
+        };
+        compare_barred(group, &BARS, book, &reading)
+    })?;
+    session.run("barred book of a refused file", |group| {
+        compare_barred(
+            group,
+            &BARS_OF_REFUSED,
+            TableBook::new(&[]),
+            &RefusedReading,
+        )
+    })
 }
 
-fn barred_tables(test: Test, file: &[u8]) -> Result<Group<'static>, AllocError> {
-    let mut group = Group::new("barred table book");
-    let reading = FileReading::of_rows(file);
-    test.run(&mut group, TableBook::new(file), &reading)?;
-    Ok(group)
-}
-
-fn barred_inequalities(test: Test, file: &[u8]) -> Result<Group<'static>, AllocError> {
-    let mut group = Group::new("barred inequality book");
-    let reading = FileReading::of_inequalities(file);
-    test.run(&mut group, InequalityBook::new(file), &reading)?;
-    Ok(group)
-}
-
-fn barred_joint(test: Test, file: &[u8]) -> Result<Group<'static>, AllocError> {
-    let mut group = Group::new("barred joint book");
-    let book = Joint::new(TableBook::new(file), InequalityBook::new(file));
-    let reading = JointReading {
-        left: FileReading::of_rows(file),
-        right: FileReading::of_inequalities(file),
-    };
-    test.run(&mut group, book, &reading)?;
-    Ok(group)
-}
-
-fn barred_refused(heap: Global, asked: Asked) -> Result<Group<'static>, AllocError> {
-    let mut group = Group::new("barred book of a refused file");
-    let test = Test {
-        heap,
-        asked,
-        bars: &BARS_OF_REFUSED,
-    };
-    test.run(&mut group, TableBook::new(&[]), &RefusedReading)?;
-    Ok(group)
-}
-
-#[derive(Clone, Copy)]
-struct Test<'a> {
-    heap: Global,
-    asked: Asked<'a>,
-    bars: &'a [Bar],
-}
-
-impl<'a> Test<'a> {
-    // Compares before any bar, after each, and once the book below is taken out again.
-    fn run<B: Book + Drop, R: Reading>(
-        self,
-        group: &mut Group,
-        book: B,
-        below: &R,
-    ) -> Result<(), AllocError> {
-        let mut barred = Barred::new(book);
-        self.asked.compare(group, &barred, below);
-        let mut reading = StruckReading::new(self.heap, below);
-        for Bar(option, value, expected) in self.bars {
-            let got = number_of_bar(&mut barred, *option, *value);
-            group.compare(Question::Bar(*option, *value), got, *expected);
-            if *expected == DONE {
-                reading.strike(*option, *value)?;
-            }
-            self.asked.compare(group, &barred, &reading);
+// Compares before any bar, after each, and once the book below is taken out again.
+fn compare_barred<B: Book + Drop, R: Reading>(
+    group: &mut Group,
+    bars: &[Bar],
+    book: B,
+    below: &R,
+) -> Result<(), AllocError> {
+    let mut barred = Barred::new(book);
+    EVERY.compare(group, &barred, below);
+    let mut reading = StruckReading::new(group.heap(), below);
+    for &Bar(option, value, expected) in bars {
+        let choice = Choice { option, value };
+        let got = barred.bar(option, value);
+        group.compare(Question::Bar(choice), number_of(got), number_of(expected));
+        if expected.is_ok() {
+            reading.strike(choice)?;
         }
-        self.asked.compare(group, &barred.into_below(), below);
-        Ok(())
+        EVERY.compare(group, &barred, &reading);
     }
+    EVERY.compare(group, &barred.into_below(), below);
+    Ok(())
 }
 
-fn number_of_bar<B: Book>(barred: &mut Barred<B>, option: usize, value: u8) -> u64 {
-    match barred.bar(option, value) {
-        Ok(()) => DONE,
+// The number of the refusal, 0 if the value was barred.
+fn number_of(bar: Result<(), BarRefusal>) -> u64 {
+    match bar {
+        Ok(()) => 0,
         Err(refusal) => u64::from(refusal.number()),
     }
 }

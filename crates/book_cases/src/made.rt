@@ -1,15 +1,13 @@
 // Table books of files made by rule: a pattern of masks for every two options.
-use crate::asked::Asked;
-use crate::reading::FileReading;
-use crate::records::{Record, append};
-use crate::tally::{Group, Total};
+use crate::asked::{Asked, EVERY};
+use crate::group::Group;
+use crate::reading::{FileReading, Rows};
+use crate::session::Session;
+use case_records::{NO_NAME, Record};
 use file_books::TableBook;
-use rule_book::Book;
 use std::alloc::{AllocError, Global};
 use std::io;
 use value_set::ValueSet;
-
-const MOST_OPTIONS: u8 = 12;
 
 // The number of values of each option.
 const SHAPES: [&[u8]; 8] = [
@@ -41,27 +39,17 @@ enum Pattern {
     Scattered,
 }
 
+// Each pattern, with the name of its group.
+const PATTERNS: [(Pattern, &str); 6] = [
+    (Pattern::NoRecord, "table books with no R record"),
+    (Pattern::Full, "table books with full masks"),
+    (Pattern::Empty, "table books with empty masks"),
+    (Pattern::OneClear, "table books with one bit clear"),
+    (Pattern::OneSet, "table books with one bit set"),
+    (Pattern::Scattered, "table books with scattered bits"),
+];
+
 impl Pattern {
-    const ALL: [Pattern; 6] = [
-        Pattern::NoRecord,
-        Pattern::Full,
-        Pattern::Empty,
-        Pattern::OneClear,
-        Pattern::OneSet,
-        Pattern::Scattered,
-    ];
-
-    fn name(self) -> &'static str {
-        match self {
-            Pattern::NoRecord => "table books with no R record",
-            Pattern::Full => "table books with full masks",
-            Pattern::Empty => "table books with empty masks",
-            Pattern::OneClear => "table books with one bit clear",
-            Pattern::OneSet => "table books with one bit set",
-            Pattern::Scattered => "table books with scattered bits",
-        }
-    }
-
     // The values of j, of which there are `count`, that go with value a of i, if there is a record for them.
     fn row(self, i: u8, a: u8, j: u8, count: u8) -> Option<ValueSet> {
         let full = ValueSet::first(count);
@@ -76,6 +64,11 @@ impl Pattern {
             Pattern::Scattered => Some(full.common(scattered(i, a, j))),
         }
     }
+
+    fn record(self, i: u8, a: u8, j: u8, count: u8) -> Option<Record> {
+        let row = self.row(i, a, j, count)?;
+        Some(Record::Row(i, a, j, row.mask()))
+    }
 }
 
 // Some set that shows no pattern, made by a multiplicative hash.
@@ -84,78 +77,44 @@ fn scattered(i: u8, a: u8, j: u8) -> ValueSet {
     ValueSet::from_mask(place.wrapping_mul(2_654_435_761).rotate_left(11))
 }
 
-pub fn run(rt: &HostRuntime, asked: Asked, total: &mut Total) -> io::Result<()> {
-    for pattern in Pattern::ALL {
-        total.report(rt, table_books(rt.alloc(), asked, pattern))?;
+pub fn run(session: &mut Session) -> io::Result<()> {
+    for (pattern, name) in PATTERNS {
+        session.run(name, |group| compare_pattern(group, pattern))?;
     }
     Ok(())
 }
 
-fn table_books(heap: Global, asked: Asked, pattern: Pattern) -> Result<Group<'static>, AllocError> {
-    let mut group = Group::new(pattern.name());
-    compare_shapes(heap, asked, &mut group, pattern, &SHAPES)?;
-    group.begin("the largest shape", 0);
-    compare_made(heap, FEW, &mut group, pattern, &LARGEST_SHAPE)?;
-    Ok(group)
-}
-
-fn compare_shapes(
-    heap: Global,
-    asked: Asked,
-    group: &mut Group,
-    pattern: Pattern,
-    shapes: &[&[u8]],
-) -> Result<(), AllocError> {
-    for (number, shape) in shapes.iter().enumerate() {
+fn compare_pattern(group: &mut Group, pattern: Pattern) -> Result<(), AllocError> {
+    for (number, shape) in SHAPES.iter().enumerate() {
         group.begin("the shape of that number", number);
-        compare_made(heap, asked, group, pattern, shape)?;
+        compare_made(EVERY, group, pattern, shape)?;
     }
-    Ok(())
+    group.begin("the largest shape", 0);
+    compare_made(FEW, group, pattern, &LARGEST_SHAPE)
 }
 
 fn compare_made(
-    heap: Global,
     asked: Asked,
     group: &mut Group,
     pattern: Pattern,
     shape: &[u8],
 ) -> Result<(), AllocError> {
-    let file = made_file(heap, pattern, shape)?;
-    let reading = FileReading::of_rows(file.as_slice());
+    let file = made_file(group.heap(), pattern, shape)?;
+    let reading = FileReading::new(file.as_slice(), Rows);
     asked.compare(group, &TableBook::new(file.as_slice()), &reading);
     Ok(())
 }
 
 fn made_file(heap: Global, pattern: Pattern, shape: &[u8]) -> Result<Vec<u8>, AllocError> {
-    let mut file = Vec::new(heap);
-    for option in 0..MOST_OPTIONS {
-        if let Some(count) = shape.get(usize::from(option)) {
-            append(&mut file, Record::Domain(option, *count))?;
-        }
-    }
-    for j in 0..MOST_OPTIONS {
-        for i in 0..j {
-            append_rows(&mut file, pattern, shape, i, j)?;
+    let domains = (0u8..)
+        .zip(shape)
+        .map(|(option, &count)| Record::Domain(option, count, NO_NAME));
+    let mut file: Vec<u8> = domains.flat_map(Record::bytes).collect(heap)?;
+    for (j, &count) in (0u8..).zip(shape) {
+        for (i, &values) in (0..j).zip(shape) {
+            let rows = (0..values).filter_map(|a| pattern.record(i, a, j, count));
+            file.extend(rows.flat_map(Record::bytes))?;
         }
     }
     Ok(file)
-}
-
-// The rows of an option toward a later one, if there are both.
-fn append_rows(
-    file: &mut Vec<u8>,
-    pattern: Pattern,
-    shape: &[u8],
-    i: u8,
-    j: u8,
-) -> Result<(), AllocError> {
-    let (Some(values), Some(count)) = (shape.get(usize::from(i)), shape.get(usize::from(j))) else {
-        return Ok(());
-    };
-    for a in 0..*values {
-        if let Some(row) = pattern.row(i, a, j, *count) {
-            append(file, Record::Row(i, a, j, row.mask()))?;
-        }
-    }
-    Ok(())
 }

@@ -3,39 +3,35 @@
 
 mod asked;
 mod bars;
+mod group;
 mod joints;
 mod limits;
 mod made;
+mod question;
 mod reading;
-mod records;
 mod refused;
+mod sample;
 mod samples;
-mod tally;
+mod session;
 mod tariffs;
 
-use asked::Asked;
+use case_count::Count;
+use session::Session;
 use std::io;
-use tally::Total;
 
 fn main(rt: HostRuntime) -> io::Result<()> {
-    let options = asked::all_options(rt.alloc())?;
-    let values = asked::all_values(rt.alloc())?;
-    let asked = Asked {
-        options: options.as_slice(),
-        values: values.as_slice(),
-    };
-    let total = run_all(&rt, asked)?;
-    println!(rt; "{total}")
+    let mut session = Session::new(&rt);
+    run_all(&mut session)?;
+    let Count { cases, wrong } = session.count();
+    println!(rt; "{cases} answers, {wrong} wrong")
 }
 
-fn run_all(rt: &HostRuntime, asked: Asked) -> io::Result<Total> {
-    let mut total = Total::new();
-    samples::run(rt, asked, &mut total)?;
-    made::run(rt, asked, &mut total)?;
-    limits::run(rt, asked, &mut total)?;
-    joints::run(rt, asked, &mut total)?;
-    refused::run(rt, asked, &mut total)?;
-    bars::run(rt, asked, &mut total)?;
-    tariffs::run(rt, asked, &mut total)?;
-    Ok(total)
+fn run_all(session: &mut Session) -> io::Result<()> {
+    samples::run(session)?;
+    made::run(session)?;
+    limits::run(session)?;
+    joints::run(session)?;
+    refused::run(session)?;
+    bars::run(session)?;
+    tariffs::run(session)
 }

@@ -1,141 +1,128 @@
 // What the records of a file say, read off the bytes anew for each question, and what follows for books over books.
-use record_file::RECORD_LENGTH;
+use crate::question::Choice;
+use case_records::RECORD_LENGTH;
 use std::alloc::{AllocFailed, Global};
-use value_set::{OPTIONS, ValueSet};
-
-// The greatest value that an option can have.
-const LAST_VALUE: u8 = 31;
+use value_set::ValueSet;
 
 // A meaning of a book.
 pub trait Reading {
     fn options(&self) -> usize;
 
-    fn has(&self, option: usize, value: u8) -> bool;
+    fn has(&self, choice: Choice) -> bool;
 
     // Whether a value of an option goes with a value of a higher option.
-    fn together(&self, option: usize, value: u8, other: usize, partner: u8) -> bool;
+    fn together(&self, lower: Choice, higher: Choice) -> bool;
 }
 
 pub fn set_of<R: Reading>(reading: &R, option: usize) -> ValueSet {
-    let mut set = ValueSet::EMPTY;
-    for value in 0..=LAST_VALUE {
-        if reading.has(option, value) {
-            set = set.with(value);
-        }
-    }
-    set
+    set_that(|value| reading.has(Choice { option, value }))
 }
 
-pub fn row_of<R: Reading>(reading: &R, option: usize, value: u8, other: usize) -> ValueSet {
-    let mut row = ValueSet::EMPTY;
-    if option == other || !reading.has(option, value) {
-        return row;
+pub fn row_of<R: Reading>(reading: &R, choice: Choice, other: usize) -> ValueSet {
+    if choice.option == other || !reading.has(choice) {
+        return ValueSet::EMPTY;
     }
-    for partner in 0..=LAST_VALUE {
-        if reading.has(other, partner) && goes_with(reading, option, value, other, partner) {
-            row = row.with(partner);
-        }
-    }
-    row
+    set_that(|value| {
+        let partner = Choice {
+            option: other,
+            value,
+        };
+        reading.has(partner) && goes_with(reading, choice, partner)
+    })
 }
 
-fn goes_with<R: Reading>(reading: &R, option: usize, value: u8, other: usize, partner: u8) -> bool {
-    if option < other {
-        reading.together(option, value, other, partner)
+// The values that pass a test.
+fn set_that<F: Fn(u8) -> bool>(passes: F) -> ValueSet
+    requires { F.IsAlwaysCallable passes }
+{
+    ValueSet::ALL
+        .values()
+        .filter(|value| passes(*value))
+        .fold(ValueSet::EMPTY, ValueSet::with)
+}
+
+fn goes_with<R: Reading>(reading: &R, choice: Choice, partner: Choice) -> bool {
+    if choice.option < partner.option {
+        reading.together(choice, partner)
     } else {
-        reading.together(other, partner, option, value)
+        reading.together(partner, choice)
     }
 }
 
-// The records that say what goes together.
-#[derive(Clone, Copy)]
-pub enum Rules {
-    Rows,
-    Inequalities,
+// A kind of record that says what does not go together.
+pub trait Rules {
+    fn forbids(&self, record: &[u8], lower: Choice, higher: Choice) -> bool;
 }
 
-// The reading of a file that is known to be accepted.
 #[derive(Clone, Copy)]
-pub struct FileReading<'a> {
+pub struct Rows;
+
+impl Rules for Rows {
+    fn forbids(&self, record: &[u8], lower: Choice, higher: Choice) -> bool {
+        let &[b'R', i, a, j, m0, m1, m2, m3, ..] = record else {
+            return false;
+        };
+        let mask = u32::from_le_bytes([m0, m1, m2, m3]);
+        usize::from(i) == lower.option
+            && a == lower.value
+            && usize::from(j) == higher.option
+            && !ValueSet::from_mask(mask).contains(higher.value)
+    }
+}
+
+#[derive(Clone, Copy)]
+pub struct Inequalities;
+
+impl Rules for Inequalities {
+    fn forbids(&self, record: &[u8], lower: Choice, higher: Choice) -> bool {
+        let &[b'L', i, _, j, p0, p1, q0, q1, c0, c1, c2, c3, ..] = record else {
+            return false;
+        };
+        let p = i64::from(i16::from_le_bytes([p0, p1]));
+        let q = i64::from(i16::from_le_bytes([q0, q1]));
+        let c = i64::from(i32::from_le_bytes([c0, c1, c2, c3]));
+        let sum = p
+            .wrapping_mul(i64::from(lower.value))
+            .wrapping_add(q.wrapping_mul(i64::from(higher.value)));
+        usize::from(i) == lower.option && usize::from(j) == higher.option && sum < c
+    }
+}
+
+// The reading of a file that is known to be accepted, in which records of one kind count.
+#[derive(Clone, Copy)]
+pub struct FileReading<'a, R> {
     file: &'a [u8],
-    rules: Rules,
+    rules: R,
 }
 
-impl<'a> FileReading<'a> {
-    pub fn of_rows(file: &'a [u8]) -> FileReading<'a> {
-        FileReading {
-            file,
-            rules: Rules::Rows,
-        }
-    }
-
-    pub fn of_inequalities(file: &'a [u8]) -> FileReading<'a> {
-        FileReading {
-            file,
-            rules: Rules::Inequalities,
-        }
+impl<'a, R> FileReading<'a, R> {
+    pub fn new(file: &'a [u8], rules: R) -> FileReading<'a, R> {
+        FileReading { file, rules }
     }
 }
 
-impl<'a> Reading for FileReading<'a> {
+impl<'a, R: Rules> Reading for FileReading<'a, R> {
     fn options(&self) -> usize {
-        let mut options = 0usize;
-        for record in self.file.chunks(RECORD_LENGTH) {
-            if record.starts_with(b"O") {
-                options = options.saturating_add(1);
-            }
-        }
-        options
+        self.file
+            .chunks(RECORD_LENGTH)
+            .filter(|record| record.starts_with(b"O"))
+            .count()
     }
 
     // The O records come first, so that option i is record i.
-    fn has(&self, option: usize, value: u8) -> bool {
-        if option >= OPTIONS {
-            return false;
-        }
-        let start = option * RECORD_LENGTH;
-        match (self.file.get(start), self.file.get(start + 2)) {
-            (Some(letter), Some(count)) => *letter == b'O' && value < *count,
+    fn has(&self, choice: Choice) -> bool {
+        match self.file.chunks(RECORD_LENGTH).nth(choice.option) {
+            Some([b'O', _, count, ..]) => choice.value < *count,
             _ => false,
         }
     }
 
-    fn together(&self, option: usize, value: u8, other: usize, partner: u8) -> bool {
-        for record in self.file.chunks(RECORD_LENGTH) {
-            let forbidden = match self.rules {
-                Rules::Rows => row_forbids(record, option, value, other, partner),
-                Rules::Inequalities => inequality_forbids(record, option, value, other, partner),
-            };
-            if forbidden {
-                return false;
-            }
-        }
-        true
+    fn together(&self, lower: Choice, higher: Choice) -> bool {
+        !self
+            .file
+            .chunks(RECORD_LENGTH)
+            .any(|record| self.rules.forbids(record, lower, higher))
     }
-}
-
-fn row_forbids(record: &[u8], option: usize, value: u8, other: usize, partner: u8) -> bool {
-    let [b'R', i, a, j, m0, m1, m2, m3, ..] = record else {
-        return false;
-    };
-    let mask = u32::from_le_bytes([*m0, *m1, *m2, *m3]);
-    usize::from(*i) == option
-        && *a == value
-        && usize::from(*j) == other
-        && !ValueSet::from_mask(mask).contains(partner)
-}
-
-fn inequality_forbids(record: &[u8], option: usize, x: u8, other: usize, y: u8) -> bool {
-    let [b'L', i, _, j, p0, p1, q0, q1, c0, c1, c2, c3, ..] = record else {
-        return false;
-    };
-    let p = i64::from(i16::from_le_bytes([*p0, *p1]));
-    let q = i64::from(i16::from_le_bytes([*q0, *q1]));
-    let c = i64::from(i32::from_le_bytes([*c0, *c1, *c2, *c3]));
-    let sum = p
-        .wrapping_mul(i64::from(x))
-        .wrapping_add(q.wrapping_mul(i64::from(y)));
-    usize::from(*i) == option && usize::from(*j) == other && sum < c
 }
 
 // The reading of a refused file.
@@ -147,11 +134,11 @@ impl Reading for RefusedReading {
         1
     }
 
-    fn has(&self, option: usize, value: u8) -> bool {
-        option == 0 && value == 0
+    fn has(&self, choice: Choice) -> bool {
+        choice.option == 0 && choice.value == 0
     }
 
-    fn together(&self, _option: usize, _value: u8, _other: usize, _partner: u8) -> bool {
+    fn together(&self, _lower: Choice, _higher: Choice) -> bool {
         true
     }
 }
@@ -164,18 +151,15 @@ pub struct JointReading<X, Y> {
 
 impl<X: Reading, Y: Reading> Reading for JointReading<X, Y> {
     fn options(&self) -> usize {
-        let left = self.left.options();
-        let right = self.right.options();
-        if left < right { left } else { right }
+        self.left.options().min(self.right.options())
     }
 
-    fn has(&self, option: usize, value: u8) -> bool {
-        self.left.has(option, value) && self.right.has(option, value)
+    fn has(&self, choice: Choice) -> bool {
+        self.left.has(choice) && self.right.has(choice)
     }
 
-    fn together(&self, option: usize, value: u8, other: usize, partner: u8) -> bool {
-        self.left.together(option, value, other, partner)
-            && self.right.together(option, value, other, partner)
+    fn together(&self, lower: Choice, higher: Choice) -> bool {
+        self.left.together(lower, higher) && self.right.together(lower, higher)
     }
 }
 
@@ -183,7 +167,7 @@ impl<X: Reading, Y: Reading> Reading for JointReading<X, Y> {
 #[derive(Drop)]
 pub struct StruckReading<'a, R> {
     below: &'a R,
-    struck: Vec<(usize, u8)>,
+    struck: Vec<Choice>,
 }
 
 impl<'a, R> StruckReading<'a, R> {
@@ -194,8 +178,8 @@ impl<'a, R> StruckReading<'a, R> {
         }
     }
 
-    pub fn strike(&mut self, option: usize, value: u8) -> Result<(), AllocFailed<(usize, u8)>> {
-        self.struck.push((option, value))
+    pub fn strike(&mut self, choice: Choice) -> Result<(), AllocFailed<Choice>> {
+        self.struck.push(choice)
     }
 }
 
@@ -204,16 +188,11 @@ impl<'a, R: Reading> Reading for StruckReading<'a, R> {
         self.below.options()
     }
 
-    fn has(&self, option: usize, value: u8) -> bool {
-        for (i, v) in self.struck.as_slice() {
-            if *i == option && *v == value {
-                return false;
-            }
-        }
-        self.below.has(option, value)
+    fn has(&self, choice: Choice) -> bool {
+        !self.struck.contains(&choice) && self.below.has(choice)
     }
 
-    fn together(&self, option: usize, value: u8, other: usize, partner: u8) -> bool {
-        self.below.together(option, value, other, partner)
+    fn together(&self, lower: Choice, higher: Choice) -> bool {
+        self.below.together(lower, higher)
     }
 }

@@ -1,10 +1,12 @@
 // Prices of tariffs.
-use crate::asked::Asked;
-use crate::records::{Record, Sample, append};
-use crate::refused::{REFUSED, refused_file};
-use crate::tally::{Group, Question, Total};
+use crate::asked::EVERY;
+use crate::group::Group;
+use crate::question::{Choice, Question};
+use crate::refused::REFUSED;
+use crate::sample::{Comparison, Sample, Samples};
+use crate::session::Session;
+use case_records::{NO_NAME, RECORD_LENGTH, Record};
 use measure::{Measure, NO_PRICE, Tariff};
-use record_file::RECORD_LENGTH;
 use std::alloc::{AllocError, Global};
 use std::io;
 use value_set::OPTIONS;
@@ -13,134 +15,131 @@ const MOST_OPTIONS: u8 = 12;
 
 const LAST_VALUE: u8 = 31;
 
-const SAMPLES: [Sample; 4] = [
-    Sample {
-        name: "no price",
-        records: &[Record::Domain(0, 2)],
-    },
-    Sample {
-        name: "the least and the greatest price",
-        records: &[
-            Record::Domain(0, 4),
-            Record::Price(0, 0, 0),
-            Record::Price(0, 1, u32::MAX),
-            Record::Price(0, 3, 1),
-        ],
-    },
-    Sample {
-        name: "a price in each byte",
-        records: &[
-            Record::Domain(0, 5),
-            Record::Domain(1, 5),
-            Record::Price(0, 0, 1),
-            Record::Price(1, 4, 1 << 8),
-            Record::Price(1, 0, 1 << 16),
-            Record::Price(0, 4, 1 << 24),
-            Record::Price(0, 1, 1 << 31),
-        ],
-    },
-    Sample {
-        name: "prices among other records",
-        records: &[
-            Record::Domain(0, 32),
-            Record::Domain(1, 3),
-            Record::Row(0, 1, 1, 2),
-            Record::Price(1, 1, 20),
-            Record::Inequality(0, 1, 2, 3, 4),
-            Record::Price(0, 31, 300),
-            Record::Price(0, 1, 4000),
-            Record::Price(1, 0, 50_000),
-        ],
-    },
-];
+const SAMPLES: Samples = Samples {
+    before: &[],
+    each: &[
+        Sample {
+            name: "no price",
+            records: &[Record::Domain(0, 2, NO_NAME)],
+        },
+        Sample {
+            name: "the least and the greatest price",
+            records: &[
+                Record::Domain(0, 4, NO_NAME),
+                Record::Price(0, 0, 0),
+                Record::Price(0, 1, u32::MAX),
+                Record::Price(0, 3, 1),
+            ],
+        },
+        Sample {
+            name: "a price in each byte",
+            records: &[
+                Record::Domain(0, 5, NO_NAME),
+                Record::Domain(1, 5, NO_NAME),
+                Record::Price(0, 0, 1),
+                Record::Price(1, 4, 1 << 8),
+                Record::Price(1, 0, 1 << 16),
+                Record::Price(0, 4, 1 << 24),
+                Record::Price(0, 1, 1 << 31),
+            ],
+        },
+        Sample {
+            name: "prices among other records",
+            records: &[
+                Record::Domain(0, 32, NO_NAME),
+                Record::Domain(1, 3, NO_NAME),
+                Record::Row(0, 1, 1, 2),
+                Record::Price(1, 1, 20),
+                Record::Inequality(0, 1, 2, 3, 4),
+                Record::Price(0, 31, 300),
+                Record::Price(0, 1, 4000),
+                Record::Price(1, 0, 50_000),
+            ],
+        },
+    ],
+};
 
-pub fn run(rt: &HostRuntime, asked: Asked, total: &mut Total) -> io::Result<()> {
-    total.report(rt, typed_prices(rt.alloc(), asked, &SAMPLES))?;
-    total.report(rt, refused_prices(rt.alloc(), asked, &REFUSED))?;
-    total.report(rt, every_price(rt.alloc(), asked))
+pub fn run(session: &mut Session) -> io::Result<()> {
+    session.run("tariffs of files typed by hand", |group| {
+        SAMPLES.compare(group, &AcceptedPrices)
+    })?;
+    session.run("tariffs of refused files", |group| {
+        REFUSED.compare(group, &RefusedPrices)
+    })?;
+    let file = full_file(session.heap())?;
+    session.run("tariff with a price for every value", |group| {
+        AcceptedPrices.compare(group, file.as_slice());
+        Ok(())
+    })
 }
 
-fn typed_prices(
-    heap: Global,
-    asked: Asked,
-    samples: &[Sample],
-) -> Result<Group<'static>, AllocError> {
-    let mut group = Group::new("tariffs of files typed by hand");
-    for sample in samples {
-        group.begin(sample.name, 0);
-        let file = sample.file(heap)?;
-        compare_prices(asked, &mut group, file.as_slice(), file.as_slice());
+#[derive(Clone, Copy)]
+struct AcceptedPrices;
+
+impl Comparison for AcceptedPrices {
+    fn compare(&self, group: &mut Group, file: &[u8]) {
+        compare_prices(group, file, file);
     }
-    Ok(group)
 }
 
-fn refused_prices(
-    heap: Global,
-    asked: Asked,
-    samples: &[Sample],
-) -> Result<Group<'static>, AllocError> {
-    let mut group = Group::new("tariffs of refused files");
-    for sample in samples {
-        group.begin(sample.name, 0);
-        let file = refused_file(heap, *sample)?;
-        compare_prices(asked, &mut group, file.as_slice(), &[]);
+#[derive(Clone, Copy)]
+struct RefusedPrices;
+
+impl Comparison for RefusedPrices {
+    // Of a refused file no record counts.
+    fn compare(&self, group: &mut Group, file: &[u8]) {
+        compare_prices(group, file, &[]);
     }
-    Ok(group)
 }
 
-fn every_price(heap: Global, asked: Asked) -> Result<Group<'static>, AllocError> {
-    let mut group = Group::new("tariff with a price for every value");
-    let file = full_file(heap)?;
-    compare_prices(asked, &mut group, file.as_slice(), file.as_slice());
-    Ok(group)
-}
-
-// Of a refused file no record counts.
-fn compare_prices(asked: Asked, group: &mut Group, file: &[u8], counting: &[u8]) {
+fn compare_prices(group: &mut Group, file: &[u8], counting: &[u8]) {
     let tariff = Tariff::new(file);
-    for option in asked.options {
-        for value in asked.values {
-            let cost = tariff.weight(*option, *value);
-            match price_of(counting, *option, *value) {
+    for &option in EVERY.options {
+        for &value in EVERY.values {
+            let choice = Choice { option, value };
+            let cost = tariff.weight(option, value);
+            match price_of(counting, choice) {
                 Some(price) => {
-                    group.compare(
-                        Question::Price(*option, *value),
-                        cost.price,
-                        u64::from(price),
-                    );
-                    group.compare(Question::Ways(*option, *value), cost.ways, 1);
+                    group.compare(Question::Price(choice), cost.price, u64::from(price));
+                    group.compare(Question::Ways(choice), cost.ways, 1);
                 }
-                None => group.compare(Question::Price(*option, *value), cost.price, NO_PRICE),
+                None => group.compare(Question::Price(choice), cost.price, NO_PRICE),
             }
         }
     }
 }
 
 // The price that the records give a value, none beyond the limits.
-fn price_of(file: &[u8], option: usize, value: u8) -> Option<u32> {
-    if option >= OPTIONS || value > LAST_VALUE {
+fn price_of(file: &[u8], choice: Choice) -> Option<u32> {
+    if choice.option >= OPTIONS || choice.value > LAST_VALUE {
         return None;
     }
-    for record in file.chunks(RECORD_LENGTH) {
-        if let [b'P', i, v, _, p0, p1, p2, p3, ..] = record {
-            if usize::from(*i) == option && *v == value {
-                return Some(u32::from_le_bytes([*p0, *p1, *p2, *p3]));
-            }
+    let price = file
+        .chunks(RECORD_LENGTH)
+        .find_map(|record| price_in(record, choice));
+    Some(price.unwrap_or(0))
+}
+
+fn price_in(record: &[u8], choice: Choice) -> Option<u32> {
+    match record {
+        &[b'P', i, v, _, p0, p1, p2, p3, ..]
+            if usize::from(i) == choice.option && v == choice.value => {
+            Some(u32::from_le_bytes([p0, p1, p2, p3]))
         }
+        _ => None,
     }
-    Some(0)
 }
 
 fn full_file(heap: Global) -> Result<Vec<u8>, AllocError> {
-    let mut file = Vec::new(heap);
+    let domains = (0..MOST_OPTIONS).map(|option| Record::Domain(option, LAST_VALUE + 1, NO_NAME));
+    let mut file: Vec<u8> = domains.flat_map(Record::bytes).collect(heap)?;
+    // The number goes into each record.
     for option in 0..MOST_OPTIONS {
-        append(&mut file, Record::Domain(option, LAST_VALUE + 1))?;
-    }
-    for option in 0..MOST_OPTIONS {
-        for value in 0..=LAST_VALUE {
+        let prices = (0..=LAST_VALUE).map(|value| {
             let price = u32::from_le_bytes([value, option, 0, value]);
-            append(&mut file, Record::Price(option, value, price))?;
-        }
+            Record::Price(option, value, price)
+        });
+        file.extend(prices.flat_map(Record::bytes))?;
     }
     Ok(file)
 }
