@@ -70,6 +70,22 @@ impl<'a> Runner<'a> {
         Outcome { got, expected }
     }
 
+    // Runs cases of which those that went wrong are printed, and then how many there were.
+    pub(crate) fn run_group<F: FnOnce(&mut Runner<'a>) -> io::Result<()>>(
+        &mut self,
+        label: &str,
+        cases: F,
+    ) -> io::Result<()>
+        requires { F.IsAlwaysCallable cases }
+    {
+        let mut group = Runner::new(self.rt);
+        cases(&mut group)?;
+        let Count { cases, wrong } = group.count;
+        println!(self.rt; "{label}: {cases} cases, {wrong} wrong")?;
+        self.count.add(group.count);
+        Ok(())
+    }
+
     pub fn show<L: fmt::Display + Drop>(
         &mut self,
         label: L,
@@ -101,21 +117,5 @@ impl<'a> Runner<'a> {
                 println!(self.rt; "unreadable: {line} ({why})")
             }
         }
-    }
-
-    // Runs cases of which those that went wrong are printed, and then how many there were.
-    pub(crate) fn run_group<F: FnOnce(&mut Runner<'a>) -> io::Result<()>>(
-        &mut self,
-        label: &str,
-        cases: F,
-    ) -> io::Result<()>
-        requires { F.IsAlwaysCallable cases }
-    {
-        let mut group = Runner::new(self.rt);
-        cases(&mut group)?;
-        let Count { cases, wrong } = group.count;
-        println!(self.rt; "{label}: {cases} cases, {wrong} wrong")?;
-        self.count.add(group.count);
-        Ok(())
     }
 }
