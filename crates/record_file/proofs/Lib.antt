@@ -1,6 +1,7 @@
 pub mod Counting
 pub mod SoundRecords
 pub mod OptionRecords
+pub mod GivenCounts
 pub mod Parts
 pub mod FilledArrays
 pub mod FirstBytes

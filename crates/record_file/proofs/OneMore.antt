@@ -1,12 +1,13 @@
 -- What is kept of the records so far, after one record more. Assumes nothing.
-use Rattle.std.proofs.Common.{◌≡◌, ℕ, ◌+◌, Bool, false, ◌&&◌, ◌||◌, eqb, List, Decides, sym, ◌∙◌, arith}
+use Rattle.std.proofs.Common.{◌≡◌, ℕ, get_or, ◌+◌, Bool, false, ◌&&◌, ◌||◌, eqb, List, Decides, sym, ◌∙◌, arith}
 use Rattle.std.proofs.lemmas.Bool.{and_left, ne_eqb, eq-eqb}
 use Rattle.std.proofs.lemmas.Bool.Decides.{Decides-eqb, Decides-and, Decides-like, nat_tests}
 use Rattle.record_file.specs.declared.tally.Tally.{Tally}
-use Rattle.record_file.specs.Layout.{byte, HasLetter, r_letter, l_letter, p_letter, count_before}
+use Rattle.record_file.specs.Layout.{byte, HasLetter, o_letter, r_letter, l_letter, p_letter, count_before}
 use Rattle.record_file.specs.Rules.{RowAt}
-use Rattle.record_file.specs.Tallies.{is_row, is_price, row_before, price_before, row_marked, price_marked, TallyBefore}
+use Rattle.record_file.specs.Tallies.{values_before, is_row, is_price, row_before, price_before, row_marked, price_marked, TallyBefore}
 use Rattle.record_file.proofs.Counting.{count_before_out}
+use Rattle.record_file.proofs.GivenCounts.{values_kept}
 use Rattle.record_file.proofs.Marking.{some_before_more}
 
 module _ (file : List ℕ) (k : ℕ) where
@@ -24,6 +25,12 @@ module _ (file : List ℕ) (k : ℕ) where
 
   module _ {t : Tally} (h : TallyBefore file k t) where
     -- a record of another kind changes nothing
+    pub options_kept : (HasLetter file k o_letter → ⊥) → t.options ≡ count_before file o_letter (k + 1)
+    options_kept other = h.options ∙ sym (count_before_out file o_letter k other)
+
+    pub counts_kept : (HasLetter file k o_letter → ⊥) → (o : ℕ) → get_or t.counts o 0 ≡ values_before file (k + 1) o
+    counts_kept other o = h.counts o ∙ sym (values_kept file k other o)
+
     pub rows_kept : (HasLetter file k r_letter → ⊥) → (o v p : ℕ) → row_marked t o v p ≡ row_before file (k + 1) o v p
     rows_kept other o v p =
         h.rows o v p

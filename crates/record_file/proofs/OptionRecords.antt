@@ -1,6 +1,6 @@
 -- What the records before record k give, where none of them breaks a rule: those that give options come first, and each
 -- gives the option of its own number. Assumes nothing.
-use Rattle.std.proofs.Common.{◌≡◌, ℕ, zero, suc, ◌+◌, ◌<◌, ◌≤◌, Bool, true, false, cond, not, leb, ◌⊎◌, List, Option, Some, None, is_some, MatchOption, Decides, sym, refl, ap, ◌∙◌, subst, inl, inr, ⊎_elim, arith, eq-eqb, le-leb, leb-true}
+use Rattle.std.proofs.Common.{◌≡◌, ℕ, zero, suc, ◌+◌, ◌<◌, ◌≤◌, Bool, true, false, cond, not, ltb, leb, ◌-◌, ◌⊎◌, List, Option, Some, None, is_some, MatchOption, Decides, sym, refl, ap, ◌∙◌, subst, inl, inr, ⊎_elim, arith, eq-eqb, le-leb, lt-ltb, leb-true, ltb-true}
 use borrow.Author.Tests.{clash}
 use Rattle.std.proofs.lemmas.Bool.{cases_eq}
 use Rattle.std.proofs.str.Laws.{order}
@@ -8,7 +8,7 @@ use Rattle.value_set.specs.Limits.{most_options, most_values}
 use Rattle.record_file.specs.Layout.{whole_records, byte, HasLetter, o_letter, r_letter, l_letter, p_letter, count_before, Gives, KnownOption, KnownValue}
 use Rattle.record_file.specs.Rules.{FollowsAnotherKind}
 use Rattle.record_file.specs.Faults.{SoundRecord}
-use Rattle.record_file.proofs.Counting.{count_before_none}
+use Rattle.record_file.proofs.Counting.{count_before_none, count_before_out, count_before-le}
 use Rattle.record_file.proofs.SoundRecords.{not_misplaced, first_known, second_known, third_known, few_values}
 
 -- a test of Q is one of P and Q where P is known
@@ -56,6 +56,26 @@ module _ {file : List ℕ} {k : ℕ} (there : k ≤ whole_records file) (sound :
   pub all_options : (FollowsAnotherKind file k → ⊥) → count_before file o_letter k ≡ k
   all_options alone =
       count_all file k (λ i lt. ⊎_elim (λ is. is) (λ other. absurd (alone (i, lt, other))) (cases_eq (byte file i 0) o_letter))
+
+  -- whether all are O records, by how many of them are
+  pub decides_follows : Decides (ltb (count_before file o_letter k) k) (FollowsAnotherKind file k)
+  decides_follows = (
+    λ fewer.
+        let less = ltb-true _ _ fewer in
+        let last : k - 1 + 1 ≡ k = omega arith in
+        ⊎_elim
+        (λ same. absurd (omega (arith, all_options (λ follows. follows_last (k - 1) last follows same))))
+        (λ other. (k - 1, omega arith, other))
+        (cases_eq (byte file (k - 1) 0) o_letter),
+    λ follows.
+        let last : k - 1 + 1 ≡ k = omega (arith, follows.1) in
+        ⊎_elim
+        (λ same. absurd (follows_last (k - 1) last follows same))
+        (λ other.
+        let fewer = subst (λ n. count_before file o_letter n ≡ count_before file o_letter (k - 1)) last (count_before_out file o_letter (k - 1) other) in
+        lt-ltb _ _ (omega (arith, follows.1, fewer, count_before-le file o_letter (k - 1))))
+        (cases_eq (byte file (k - 1) 0) o_letter),
+  )
 
   module _ (j : ℕ) (lt : j < k) (letter : HasLetter file j o_letter) where
     counted : count_before file o_letter j ≡ j
@@ -117,3 +137,10 @@ module _ {file : List ℕ} {k : ℕ} (there : k ≤ whole_records file) (sound :
 
     pub named_other : HasLetter file k r_letter ⊎ HasLetter file k l_letter → byte file k 3 < most_options
     named_other letter = not_unknown _ (option_small _) (λ unknown. third_known in_file here (letter, inl unknown))
+
+-- an O record that breaks no rule, as none before it does, has the number of its option
+pub own_option : {file : List ℕ} {k : ℕ} → k < whole_records file → ((j : ℕ) → j ≤ k → SoundRecord file j) → HasLetter file k o_letter → (byte file k 1 ≡ k) × (k < most_options)
+own_option {k = k} there sound letter = (
+  option_number {k = k + 1} (omega arith) (λ j lt. sound j (omega arith)) k (omega arith) letter,
+  option_room {k = k + 1} (omega arith) (λ j lt. sound j (omega arith)) k (omega arith) letter,
+)

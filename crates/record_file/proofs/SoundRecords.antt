@@ -1,5 +1,5 @@
 -- What is known of a record that breaks no rule. Assumes nothing.
-use Rattle.std.proofs.Common.{ℕ, ◌<◌, ◌≤◌, List, refl, inr, ⊎_elim, arith}
+use Rattle.std.proofs.Common.{ℕ, ◌<◌, ◌≤◌, List, refl, inl, inr, ⊎_elim, arith}
 use Rattle.std.proofs.str.Laws.{order}
 use Rattle.record_file.specs.declared.fault.Rule.{Rule}
 use Rattle.record_file.specs.declared.fault.Rule.TheVariants.{UnknownLetter, MisplacedOption, ValueCount, UnknownReference}
@@ -33,6 +33,10 @@ module _ {file : List ℕ} {k : ℕ} (there : k < whole_records file) (sound : S
   pub third_known : HasUnknownSecond file k → ⊥
   third_known broken =
       unbroken UnknownReference 3 (omega arith) (record { there = there; broken = first_is_3 _ _ _ first_known second_known broken })
+
+  pub some_values : HasLetter file k o_letter → 0 < byte file k 2
+  some_values letter =
+      ⊎_elim (λ none. absurd (count_right (letter, inl (omega arith)))) (λ some. some) (order (byte file k 2) 1)
 
   pub few_values : HasLetter file k o_letter → byte file k 2 ≤ 32
   few_values letter =

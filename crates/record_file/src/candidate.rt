@@ -1,9 +1,9 @@
 // The record that is at hand in a check, and for each rule on records the byte at which it breaks the rule, if it does.
-ghost use Rattle.std.specs.Prelude.{◌≡◌, ℕ, ◌<◌, Decides, MatchOption, MatchResult};
-ghost use Rattle.record_file.specs.Layout.{count_before, l_letter, Gives, KnownOption};
+ghost use Rattle.std.specs.Prelude.{◌≡◌, ℕ, ◌<◌, Decides, MatchOption, MatchResult, slice_index};
+ghost use Rattle.record_file.specs.Layout.{count_before, o_letter, l_letter, Gives, KnownOption};
 ghost use Rattle.record_file.specs.Rules.{FollowsAnotherKind, HasUnknownFirst, HasUnknownValue, HasUnknownSecond, Repeated, unused};
 ghost use Rattle.record_file.specs.Faults.{Breaks, Finds, OnRecord, SoundRecord, FirstInRecord};
-ghost use Rattle.record_file.specs.Tallies.{row_marked, price_marked, row_before, price_before};
+ghost use Rattle.record_file.specs.Tallies.{values_before, row_marked, price_marked, row_before, price_before};
 ghost use Rattle.record_file.specs.declared.fault.Rule.TheVariants.{UnknownLetter, MisplacedOption, ValueCount};
 ghost use Rattle.record_file.specs.declared.fault.Rule.TheVariants.{UnknownReference, MaskBeyondValues, ReservedByte};
 ghost use Rattle.record_file.specs.declared.fault.Rule.TheVariants.{Duplicate, TooManyInequalities};
@@ -34,6 +34,8 @@ pub(crate) struct Candidate<'f, 't> {
     pub(crate) record: RawRecord<'f>,
     pub(crate) tally: &'t Tally,
     ghost sound: { (k : ℕ) → k < record.number → SoundRecord record.file.now k },
+    ghost options: { tally.now.options ≡ count_before record.file.now o_letter record.number },
+    ghost counts: { (o : ℕ) → slice_index tally.now.counts o ≡ values_before record.file.now record.number o },
     ghost rows: { (o v p : ℕ) → row_marked tally.now o v p ≡ row_before record.file.now record.number o v p },
     ghost prices: { (o v : ℕ) → price_marked tally.now o v ≡ price_before record.file.now record.number o v },
     ghost inequalities: { tally.now.inequalities ≡ count_before record.file.now l_letter record.number },
@@ -45,9 +47,9 @@ impl<'f, 't> Candidate<'f, 't> {
         ensures { MatchResult result (λ _. SoundRecord self.now.record.file.now self.now.record.number)
             (FirstInRecord self.now.record.file.now self.now.record.number) }
     {
-        for rule in RECORD_RULES {
-            if let Some(byte) = self.broken_at(rule) {
-                return Err(Fault::new(rule, self.record.number, byte));
+        for rule in &RECORD_RULES {
+            if let Some(byte) = self.broken_at(*rule) {
+                return Err(Fault::new(*rule, self.record.number, byte));
             }
         }
         Ok(())
@@ -80,18 +82,11 @@ impl<'f, 't> Candidate<'f, 't> {
         }
     }
 
-    // Whether some record before this one is no O record. Since an O record follows O records alone, the last one tells.
+    // Whether some record before this one is no O record. Since an O record follows O records alone, their count tells.
     fn follows_another_kind(&self) -> bool
         ensures { Decides result (FollowsAnotherKind self.now.record.file.now self.now.record.number) }
     {
-        let RawRecord { file, number } = self.record;
-        number > 0
-            && RawRecord {
-                file,
-                number: number - 1,
-            }
-            .letter()
-                != 'O'
+        self.tally.options() < self.record.number
     }
 
     // Where all records before this one are O records, their count is its number.
@@ -121,25 +116,15 @@ impl<'f, 't> Candidate<'f, 't> {
         None
     }
 
-    // The number of values of an option, if a record before this one gives it. Those that give options come first, in the
-    // order of the options.
+    // The number of values of an option, if a record before this one gives it. No record gives an option without values.
     fn values_of(&self, option: u8) -> Option<u8>
         ensures { MatchOption result
             (KnownOption self.now.record.file.now self.now.record.number option → ⊥)
             (Gives self.now.record.file.now self.now.record.number option) }
     {
-        let number = usize::from(option);
-        if number >= self.record.number {
-            return None;
-        }
-        let given = RawRecord {
-            file: self.record.file,
-            number,
-        };
-        if given.letter() == 'O' {
-            Some(given.byte(2))
-        } else {
-            None
+        match self.tally.count(option) {
+            0 => None,
+            count => Some(count),
         }
     }
 

@@ -1,5 +1,5 @@
 // What is kept of the records so far.
-ghost use Rattle.std.specs.Prelude.{◌≡◌, ℕ, ◌+◌, ◌<◌, ◌≤◌, ◌&&◌, ◌||◌, ◌==◌, List};
+ghost use Rattle.std.specs.Prelude.{◌≡◌, ℕ, ◌+◌, ◌<◌, ◌≤◌, ◌&&◌, ◌||◌, ◌==◌, List, slice_index};
 ghost use Rattle.value_set.specs.Limits.{most_options, most_values};
 ghost use Rattle.record_file.specs.Faults.{SoundRecord};
 ghost use Rattle.record_file.specs.Layout.{whole_records};
@@ -11,6 +11,10 @@ use value_set::{OPTIONS, ValueSet};
 // What the records before one at hand give, as far as rules ask for it, in arrays, as the check allocates nothing.
 #[derive(Clone, Copy)]
 pub(crate) struct Tally {
+    // How many O records there are.
+    options: usize,
+    // For each option that an O record gives, the number of its values; 0 for the others.
+    counts: [u8; OPTIONS],
     // For each other option and each option, the values of the option that R records are for.
     rows: [[ValueSet; OPTIONS]; OPTIONS],
     // For each option, the values that P records are for.
@@ -23,6 +27,8 @@ impl Tally {
         ensures { (file : List ℕ) → TallyBefore file 0 result }
     {
         Tally {
+            options: 0,
+            counts: [0; OPTIONS],
             rows: [[ValueSet::EMPTY; OPTIONS]; OPTIONS],
             prices: [ValueSet::EMPTY; OPTIONS],
             inequalities: 0,
@@ -40,7 +46,10 @@ impl Tally {
             return;
         };
         match record {
-            Record::Domain { .. } => {}
+            Record::Domain { option, count, .. } => {
+                self.options += 1;
+                self.counts[usize::from(option)] = count;
+            }
             Record::Row {
                 option,
                 value,
@@ -59,9 +68,25 @@ impl Tally {
         ensures rows { (o v p : ℕ) → row_marked self.new o v p
             ≡ (row_marked self.old o v p || (p == other && (o == option && v == value))) }
         ensures prices { self.new.prices ≡ self.old.prices }
+        ensures options { self.new.options ≡ self.old.options }
+        ensures counts { self.new.counts ≡ self.old.counts }
         ensures inequalities { self.new.inequalities ≡ self.old.inequalities }
     {
         add_value(&mut self.rows[usize::from(other)], option, value);
+    }
+
+    // How many O records there were.
+    pub(crate) fn options(&self) -> usize
+        ensures { result ≡ self.now.options }
+    {
+        self.options
+    }
+
+    // The number of values of an option, 0 where no O record gives it.
+    pub(crate) fn count(&self, option: u8) -> u8
+        ensures { result ≡ slice_index self.now.counts option }
+    {
+        self.counts.get(usize::from(option)).copied().unwrap_or(0)
     }
 
     // Whether an R record was for this value of an option and this other option.
