@@ -1,7 +1,7 @@
 // What can be wrong with a record file: the rules by name and number, and a fault with the place where it lies.
-ghost use Rattle.std.specs.Prelude.{◌≡◌, MatchOption, ◌≢◌};
+ghost use Rattle.std.specs.Prelude.{◌≡◌, Some, MatchOption, ◌≢◌};
 ghost use Rattle.record_file.specs.Faults.{number_of, layer_of, fault_at};
-ghost use Rattle.record_file.specs.Numbers.{Numbered};
+ghost use Rattle.record_file.specs.Numbers.{Numbered, unknown_number_text};
 
 use std::error::Error;
 use std::fmt;
@@ -67,6 +67,8 @@ impl TryFrom<u8> for Rule {
 }
 
 impl fmt::Display for UnknownNumber {
+    ghost output = { λ e. Some (unknown_number_text e.0) };
+
     fn fmt<W: fmt::Write>(&self, f: &mut fmt::Formatter<W>) -> fmt::Result {
         write!(f, "no rule has the number {}", self.0)
     }
