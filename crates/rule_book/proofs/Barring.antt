@@ -1,10 +1,9 @@
 -- What changes when one more value is barred, and that nothing does where none is barred. Assumes nothing.
-use Rattle.std.proofs.Common.{◌≡◌, ℕ, ◌≤◌, Bool, true, false, not, ◌&&◌, ◌||◌, eqb, ltb, refl, ◌∙◌, ap₂, arith}
+use Rattle.std.proofs.Common.{◌≡◌, ℕ, ◌<◌, ◌≤◌, Bool, true, false, not, ◌&&◌, ◌||◌, eqb, ltb, refl, ◌∙◌, ap₂, arith}
 use Rattle.std.proofs.lemmas.Bool.Decides.{nat_tests}
 use Rattle.value_set.specs.Blocks.{side_of}
 use Rattle.value_set.specs.Limits.{most_options, most_values}
-use Rattle.value_set.specs.Members.{has, member}
-use Rattle.value_set.proofs.Bits.{has_none}
+use Rattle.value_set.specs.Members.{member}
 use Rattle.value_set.specs.declared.block.Block.{Block}
 use Rattle.value_set.specs.declared.set.ValueSet.{ValueSet}
 use Rattle.rule_book.specs.Books.{Meaning, SameAnswers, in_set}
@@ -37,11 +36,12 @@ module _ (m : Meaning) (before after : Block) (k w : ℕ)
 
 module _ (m : Meaning) (few : m.options ≤ most_options) (before after : Block) (s : ValueSet) (k w : ℕ)
     (there : in_set (without_barred m before) k w ≡ true)
-    (only : (v : ℕ) → member s v ≡ (has 0 v || (eqb v w && ltb v most_values)))
+    (only : (v : ℕ) → member s v ≡ (eqb v w && ltb v most_values))
     (more : (i v : ℕ) → member (side_of after i) v ≡ (member (side_of before i) v || ((eqb i k && ltb k most_options) && member s v))) where
   barred_more : (i v : ℕ) → member (side_of after i) v ≡ (member (side_of before i) v || (eqb i k && eqb v w))
   barred_more i v =
-      let none = has_none v in
+      let small : w < most_values = grind (arith, nat_tests) in
+      let known : k < most_options = grind (arith, nat_tests) in
       let here = only v in
       let at = more i v in
       grind (arith, nat_tests)

@@ -3,7 +3,7 @@ use Rattle.std.proofs.Common.{◌≡◌, ℕ, zero, suc, ◌+◌, ◌-◌, ◌/�
 use lib.Dec.{leb-suc-suc}
 use lib.Bits.{bit_and, bit_or, and_shr, and_mod, or_shr, or_mod, or_shifted_r, or_zero_r}
 use Rattle.std.proofs.lemmas.Nat.{pow_pos, shr-shr}
-use Rattle.std.proofs.lemmas.Bool.{cases_eq, cases_lt, lt-ltb, le-ltb, and_right, true≢false}
+use Rattle.std.proofs.lemmas.Bool.{cases_eq, cases_lt, lt-ltb, le-ltb, and_right, true≢false, cases_Bool, eq-eqb, ne_eqb, and_from, and_left, not_from_false, not_from_true, false≢true}
 use Rattle.std.proofs.lemmas.Bool.Decides.{nat_tests}
 use Rattle.value_set.specs.declared.set.ValueSet.{ValueSet}
 use Rattle.value_set.specs.Members.{has, member, mask_below}
@@ -131,6 +131,27 @@ same_set s t same = ap (λ m. record { mask = m }) (ext s.mask t.mask same)
 pub none_zero : (m : ℕ) → ((v : ℕ) → has m v ≡ false) → m ≡ 0
 none_zero m none = ext m 0 (λ v. none v ∙ sym (has_none v))
 
+-- a set meets the set of k alone exactly if it has k; no function needs it yet
+pub meets_single : (n m b k : ℕ) → m < 2 ^ n → ((v : ℕ) → has b v ≡ (eqb v k && ltb v n)) → not (eqb (bit_and m b) 0) ≡ has m k
+meets_single n m b k fits single = ⊎_elim there missing (cases_Bool (has m k))
+  where
+    there : has m k ≡ true → not (eqb (bit_and m b) 0) ≡ has m k
+    there e =
+        let below = has_below n m k fits e in
+        let alone : has b k ≡ true = single k ∙ and_from _ _ (eq-eqb k k refl) (lt-ltb k n below) in
+        let both : has (bit_and m b) k ≡ true = has-and m b k ∙ and_from _ _ e alone in
+        not_from_false _ (ne_eqb (bit_and m b) 0 (λ z. false≢true (sym (ap (λ a. has a k) z ∙ has_none k) ∙ both))) ∙ sym e
+
+    none : has m k ≡ false → (v : ℕ) → has (bit_and m b) v ≡ false
+    none e v =
+        has-and m b v ∙ ap (λ t. has m v && t) (single v) ∙ ⊎_elim
+        (λ same. and_left _ _ (ap (has m) same ∙ e))
+        (λ other. and_right _ _ (and_left _ _ (ne_eqb v k other)))
+        (cases_eq v k)
+
+    missing : has m k ≡ false → not (eqb (bit_and m b) 0) ≡ has m k
+    missing e = not_from_true _ (eq-eqb (bit_and m b) 0 (none_zero (bit_and m b) (none e))) ∙ sym e
+
 -- ---- the mask of a test
 
 pub and_yes : (a b : Bool) → b ≡ true → (a && b) ≡ a
@@ -167,3 +188,6 @@ has_mask (suc n) p v =
     ap (λ m. has m v) (mask_top n p (mask_lt n p)) ∙ has-or (mask_below n p) (cond (p n) (2 ^ n) 0) v
     ∙ ap₂ ◌||◌ (has_mask n p v) (mask_at n v (p n))
     ∙ ⊎_elim (λ same. let at = ap p same in grind (arith, nat_tests)) (λ other. grind (arith, nat_tests)) (cases_eq v n)
+
+pub has-mask_below : (n : ℕ) (p : ℕ → Bool) (v : ℕ) → v < n → has (mask_below n p) v ≡ p v
+has-mask_below n p v lt = has_mask n p v ∙ and_yes (p v) _ (lt-ltb v n lt)

@@ -1,6 +1,6 @@
 -- The sides of the empty block, what `==` of blocks tells, and the product of the numbers of values of a block's sides.
 -- Assumes nothing.
-use Rattle.std.proofs.Common.{nat_eq, ◌+◌, drop, [], ◌∷◌, Bool, Decides, IsTrue, ◌↔◌, EachIndex, List, length, true, ◌≡◌, ℕ, zero, suc, ◌*◌, ◌^◌, ◌<◌, ◌≤◌, false, get_or, replicate, sym, refl, ap, ◌∙◌, ⊎_elim, le_trans, le_of_eq, mul-zero, zero-mul, arith, pow_mono}
+use Rattle.std.proofs.Common.{nat_eq, ◌+◌, drop, [], ◌∷◌, Bool, Decides, IsTrue, ◌↔◌, EachIndex, List, length, true, ◌≡◌, ℕ, zero, suc, ◌*◌, ◌^◌, ◌<◌, ◌≤◌, false, get_or, replicate, sym, refl, ap, ◌∙◌, ⊎_elim, le_trans, le_of_eq, mul-zero, zero-mul, arith, pow_mono, ap₂}
 use Rattle.std.proofs.lemmas.Nat.{mul-le, pow-add}
 use Rattle.std.proofs.lemmas.Bool.{cases_eq, cases_lt, true≢false}
 use Rattle.std.proofs.lemmas.List.{drop_more, get_or_past}
@@ -46,6 +46,13 @@ block_size-le b (suc n) =
 
 pub block_size_fits : (b : Block) (n : ℕ) → n ≤ 12 → block_size b n ≤ 2 ^ 60
 block_size_fits b n le = let most : n * 5 ≤ 60 = omega arith in le_trans (block_size-le b n) (pow_mono most)
+
+-- blocks with the same first sides; no function needs it yet
+pub block_size_same : (b c : Block) (n : ℕ) → ((i : ℕ) → i < n → side_of b i ≡ side_of c i) → block_size b n ≡ block_size c n
+unfolding block_size
+block_size_same b c zero same = refl
+block_size_same b c (suc n) same =
+    ap₂ (λ k s. k * size s) (block_size_same b c n (λ i lt. same i (omega arith))) (same n (omega arith))
 
 -- a block with an empty side; no function needs it yet
 pub block_size_none : (b : Block) (n i : ℕ) → i < n → NoMember (side_of b i) → block_size b n ≡ 0

@@ -1,7 +1,7 @@
 -- How many numbers below a bound pass a test. Assumes nothing.
 use Rattle.std.proofs.Common.{◌≡◌, ℕ, zero, suc, ◌+◌, ◌/◌, ◌%◌, ◌^◌, ◌<◌, ◌≤◌, Bool, true, false, cond, not, ◌&&◌, ◌||◌, eqb, sym, refl, ap, ◌∙◌, ap₂, ⊎_elim, le_of_eq, pow-suc, arith}
 use lib.Count.{ones, ones_step}
-use Rattle.std.proofs.lemmas.Bool.{cases_eq, cases_lt, cases_order, eq-eqb, eqb-true, ne_eqb, true≢false}
+use Rattle.std.proofs.lemmas.Bool.{cases_eq, cases_lt, cases_order, eq-eqb, eqb-true, ne_eqb, true≢false, cases_Bool}
 use Rattle.value_set.specs.Members.{has, count_below}
 use Rattle.value_set.proofs.Bits.{has-zero, has-suc}
 
@@ -52,6 +52,10 @@ count_some (suc n) p v lt there =
     (λ before. omega (arith, count_some n p v (omega arith) there))
     (cases_eq v n)
 
+pub none_count : (n : ℕ) (p : ℕ → Bool) → count_below n p ≡ 0 → (v : ℕ) → v < n → p v ≡ false
+none_count n p zero-count v lt =
+    ⊎_elim (λ there. absurd (omega (arith, count_some n p v lt there))) (λ missing. missing) (cases_Bool (p v))
+
 -- ---- the count
 
 pub count_le : (n : ℕ) (p : ℕ → Bool) → count_below n p ≤ n
@@ -86,6 +90,15 @@ pub count_none : (n : ℕ) (p : ℕ → Bool) → ((v : ℕ) → v < n → p v �
 unfolding count_below
 count_none zero p none = refl
 count_none (suc n) p none = count_out n p (none n (omega arith)) ∙ count_none n p (λ v lt. none v (omega arith))
+
+-- a larger bound, where none passes from the smaller one on
+pub count_more : (n m : ℕ) (p : ℕ → Bool) → n ≤ m → ((v : ℕ) → n ≤ v → v < m → p v ≡ false) → count_below m p ≡ count_below n p
+count_more n zero p le none = ap (λ k. count_below k p) (omega arith)
+count_more n (suc m) p le none =
+    ⊎_elim
+    (λ lt. count_out m p (none m (omega arith) (omega arith)) ∙ count_more n m p (omega arith) (λ v low high. none v low (omega arith)))
+    (λ ge. ap (λ k. count_below k p) (omega arith))
+    (cases_lt n (suc m))
 
 -- one number alone
 pub count_single : (n k : ℕ) → k < n → count_below n (λ v. eqb v k) ≡ 1

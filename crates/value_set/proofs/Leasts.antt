@@ -1,8 +1,17 @@
 -- The least number that passes a test. Assumes nothing.
-use Rattle.std.proofs.Common.{◌≡◌, ℕ, zero, suc, ◌/◌, ◌%◌, ◌^◌, ◌<◌, Bool, true, false, eqb, sym, refl, ap, ◌∙◌, pow-suc, arith}
+use Rattle.std.proofs.Common.{◌≡◌, ℕ, zero, suc, ◌/◌, ◌%◌, ◌^◌, ◌<◌, Bool, true, false, eqb, sym, refl, ap, ◌∙◌, pow-suc, arith, ◌≤◌, ⊎_elim}
 use lib.Count.{count_trailing_zeros, under}
 use Rattle.value_set.specs.Members.{has, Least}
 use Rattle.value_set.proofs.Bits.{has-zero, has-suc}
+use Rattle.std.proofs.lemmas.Bool.{cases_Bool, cases_order, true≢false}
+
+-- there is at most one; no function needs it yet
+pub least_unique : (p : ℕ → Bool) (v w : ℕ) → Least p v → Least p w → v ≡ w
+least_unique p v w lv lw =
+    ⊎_elim
+    (λ same. same)
+    (⊎_elim (λ lt. absurd (true≢false (sym lv.there ∙ lw.least v lt))) (λ lt. absurd (true≢false (sym lw.there ∙ lv.least w lt))))
+    (cases_order v w)
 
 -- tests that agree
 pub least_same : (p q : ℕ → Bool) (v : ℕ) → ((k : ℕ) → p k ≡ q k) → Least p v → Least q v
@@ -17,6 +26,16 @@ least_suc p v none l = record { there = l.there; least = smaller }
     smaller : (k : ℕ) → k < suc v → p k ≡ false
     smaller zero lt = none
     smaller (suc k) lt = l.least k (omega arith)
+
+-- where some number passes there is a least one; no function needs it yet
+pub least_exists : (p : ℕ → Bool) (v : ℕ) → p v ≡ true → (w : ℕ) × (w ≤ v) × Least p w
+least_exists p zero there = (zero, omega arith, least_zero p there)
+least_exists p (suc v) there =
+    let above = least_exists (λ k. p (suc k)) v there in
+    ⊎_elim
+    (λ low. (zero, omega arith, least_zero p low))
+    (λ none. (suc above.0, omega arith, least_suc p above.0 none above.2))
+    (cases_Bool (p 0))
 
 -- ---- the place of the lowest bit of a mask that is 1
 
