@@ -71,6 +71,7 @@ impl Relation for Conflicts {
         conflicts
     }
 
+    #[tactic(auto, using(crate::proofs::Conflicting::no_conflict_past))]
     fn contains(&self, option: usize, value: u8, other: usize, partner: u8) -> bool {
         // Not by `place_of`: beyond the limits there is an answer too, that of the place that the numbers come to.
         let place = option.min(OPTIONS) * VALUES as usize + usize::from(value);

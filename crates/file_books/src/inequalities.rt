@@ -1,5 +1,7 @@
 // The relation that the L records of a file make.
-ghost use Rattle.std.specs.Prelude.{◌≡◌, ℕ, not, List, pos, ◌*ℤ◌, MatchOption, is_none, position};
+ghost use Rattle.std.specs.Prelude.{◌≡◌, ℕ, ◌+◌, ◌*◌, not, List, pos, ◌*ℤ◌, MatchOption, is_none, position, slice_index};
+ghost use Rattle.std.specs.Int.{w16};
+ghost use Rattle.std.proofs.Common.{to_z};
 ghost use Rattle.record_file.specs.Layout.{HasLetter, l_letter};
 ghost use Rattle.record_file.specs.Reading.{Shows};
 ghost use Rattle.file_books.specs.Inequalities.{combined, broken, keeps_all, InequalityForbids, RuleOf, Adds};
@@ -31,8 +33,8 @@ impl Inequality {
             } => Some(Inequality {
                 option: usize::from(option),
                 other: usize::from(other),
-                p: i16::from_le_bytes(bytes_of(coefficients, 0)),
-                q: i16::from_le_bytes(bytes_of(coefficients, 2)),
+                p: short_at(coefficients, 0),
+                q: short_at(coefficients, 2),
                 c: i32::from_le_bytes(bytes_of(coefficients, 4)),
             }),
             _ => None,
@@ -51,6 +53,13 @@ impl Inequality {
     {
         self.option != option || self.other != other || self.combined(x, y) >= i64::from(self.c)
     }
+}
+
+// The signed number in two bytes of a part of a record.
+fn short_at(part: &[u8], at: usize) -> i16
+    ensures { result ≡ to_z w16 (slice_index part.now at + slice_index part.now (at + 1) * 256) }
+{
+    i16::from_le_bytes(bytes_of(part, at))
 }
 
 // Multiplied in 32 bits, which is wide enough, so that the sum in 64 bits is bounded by the types alone.

@@ -1,6 +1,7 @@
 // The values of a set one after the other.
-ghost use Rattle.std.specs.Prelude.{◌≡◌, ◌<◌, ◌≤◌, Some, MatchOption};
-ghost use Rattle.value_set.specs.Members.{size, Next, NoMember, Nth};
+ghost use Rattle.std.specs.Prelude.{◌≡◌, ◌<◌, ◌≤◌, Some, MatchOption, slice_get};
+ghost use Rattle.value_set.specs.Limits.{most_values};
+ghost use Rattle.value_set.specs.Members.{member, list_below, size, Next, NoMember, Nth};
 ghost use Rattle.std.specs.Iterator.{at_most};
 
 use crate::set::ValueSet;
@@ -35,10 +36,18 @@ impl ValueSet {
     }
 
     /// The value that has exactly `index` values of the set below it, if there is one.
+    #[tactic(auto, using(crate::proofs::Steps::nth_value))]
     pub fn nth(self, index: u32) -> Option<u8>
         ensures { MatchOption result (size self ≤ index) (Nth self index) }
     {
-        self.values().nth(index as usize)
+        self.value_at(index as usize)
+    }
+
+    // The value at a place among the values in ascending order.
+    fn value_at(self, place: usize) -> Option<u8>
+        ensures { result ≡ slice_get (list_below most_values (member self)) place }
+    {
+        self.values().nth(place)
     }
 
     /// The least value and the set of the others, which is smaller.
