@@ -1,11 +1,22 @@
 -- The text of a name, byte by byte, and that a terminal prints all of it. Assumes nothing.
-use Rattle.std.proofs.Common.{◌≡◌, ℕ, ◌-◌, ◌/◌, ◌%◌, ◌^◌, ◌<◌, false, codes, List, [], ◌∷◌, ◌++◌, append_assoc, arith}
-use Rattle.std.specs.Fmt.{digits, format_spec, padded_integral}
+use Rattle.std.proofs.Common.{◌≡◌, ℕ, ◌+◌, ◌/◌, ◌<◌, codes, List, [], ◌∷◌, ◌++◌, length, get_or, take, sym, ap, ◌∙◌, append_assoc, arith}
 use Rattle.std.specs.List.{flat_map, AllByRecursion}
-use Rattle.std.proofs.lemmas.Fmt.{hex_byte}
+use Rattle.std.proofs.lemmas.List.{flat_map_more, take_more}
 use Rattle.std.proofs.lemmas.Bool.{cond_both}
 use Rattle.std.proofs.lemmas.Bool.Decides.{nat_tests}
 use Rattle.file_report.specs.Names.{hex_digit, quoted, printed, shown_byte, shown_name, trimmed, Printable}
+
+pub shown-more :
+    (bs : List ℕ) (i : ℕ) {before after : List ℕ} →
+    i < length bs →
+    before ≡ flat_map shown_byte (take i bs) →
+    after ≡ before ++ shown_byte (get_or bs i 0) →
+    after ≡ flat_map shown_byte (take (i + 1) bs)
+shown-more bs i inside old new =
+    new
+    ∙ ap (λ text. text ++ shown_byte (get_or bs i 0)) old
+    ∙ flat_map_more shown_byte [] (take i bs) (get_or bs i 0)
+    ∙ ap (flat_map shown_byte) (sym (take_more bs i 0 inside))
 
 every_append : (xs ys : List ℕ) → AllByRecursion Printable xs → AllByRecursion Printable ys → AllByRecursion Printable (xs ++ ys)
 every_append [] ys hx hy = hy
@@ -26,17 +37,6 @@ joined_printable (b ∷ bs) = every_append (shown_byte b) (flat_map shown_byte b
 
 pub name_printable : (name : List ℕ) → AllByRecursion Printable (shown_name name)
 name_printable name = joined_printable (trimmed name)
-
--- what `\x{:02x}` writes of a byte that neither stands behind a backslash nor is printed as itself
-pub escape_text :
-    (b : ℕ) →
-    b < 256 →
-    quoted b ≡ false →
-    printed b ≡ false →
-    codes "\\x" ++ padded_integral (format_spec 32 0 4 2 (2 ^ 64 - 1)) false [] (digits 16 false b) ≡ shown_byte b
-escape_text b lt not_quoted not_printed =
-    let high : b / 16 % 16 ≡ b / 16 = omega arith in
-    simp (not_quoted, not_printed, hex_byte false b lt, high)
 
 -- the pieces of the line on a file's counts
 pub counts_joined :

@@ -3,7 +3,7 @@ ghost use Rattle.std.specs.Prelude.{◌≡◌, IfOk, Some, string_bytes};
 ghost use Rattle.file_report.specs.Lines.{noun_of, option_text, counts_text, refusal_text};
 
 use crate::counts::Counts;
-use crate::names::ShownName;
+use crate::names::name_text;
 use record_file::Fault;
 use std::alloc::{AllocError, Global};
 use std::fmt;
@@ -19,7 +19,7 @@ fn noun(count: u8) -> &'static str
 pub fn option_line(heap: Global, option: u8, name: &[u8], count: u8) -> Result<String, AllocError>
     ensures { IfOk result (λ s. string_bytes s ≡ option_text option name.now count) }
 {
-    let name = ShownName(name);
+    let name = name_text(heap, name)?;
     let values = noun(count);
     format!(in heap; "option {option} \"{name}\" {count} {values}")
 }
