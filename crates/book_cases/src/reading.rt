@@ -4,6 +4,9 @@ use case_records::RECORD_LENGTH;
 use std::alloc::{AllocFailed, Global};
 use value_set::ValueSet;
 
+// The greatest value that an option can have.
+pub const LAST_VALUE: u8 = 31;
+
 // A meaning of a book.
 pub trait Reading {
     fn options(&self) -> usize;
@@ -31,12 +34,11 @@ pub fn row_of<R: Reading>(reading: &R, choice: Choice, other: usize) -> ValueSet
     })
 }
 
-// The values that pass a test.
+// The values that pass a test, counted here and not by the steps of a set, as the books go by those.
 fn set_that<F: Fn(u8) -> bool>(passes: F) -> ValueSet
     requires { F.IsAlwaysCallable passes }
 {
-    ValueSet::ALL
-        .values()
+    (0..=LAST_VALUE)
         .filter(|value| passes(*value))
         .fold(ValueSet::EMPTY, ValueSet::with)
 }
@@ -111,7 +113,8 @@ impl<'a, R: Rules> Reading for FileReading<'a, R> {
 
     // The O records come first, so that option i is record i.
     fn has(&self, choice: Choice) -> bool {
-        match self.file.chunks(RECORD_LENGTH).nth(choice.option) {
+        let start = choice.option.saturating_mul(RECORD_LENGTH);
+        match self.file.get(start..) {
             Some([b'O', _, count, ..]) => choice.value < *count,
             _ => false,
         }

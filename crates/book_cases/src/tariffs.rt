@@ -2,6 +2,7 @@
 use crate::asked::EVERY;
 use crate::group::Group;
 use crate::question::{Choice, Question};
+use crate::reading::LAST_VALUE;
 use crate::refused::REFUSED;
 use crate::sample::{Comparison, Sample, Samples};
 use crate::session::Session;
@@ -12,8 +13,6 @@ use std::io;
 use value_set::OPTIONS;
 
 const MOST_OPTIONS: u8 = 12;
-
-const LAST_VALUE: u8 = 31;
 
 const SAMPLES: Samples = Samples {
     before: &[],
