@@ -1,6 +1,5 @@
 // The relation that the R records of a file make.
 ghost use Rattle.std.specs.Prelude.{◌≡◌, ℕ, ◌+◌, ◌<◌, ◌&&◌, ◌||◌, List, ◌==◌};
-ghost use Rattle.value_set.specs.Blocks.{side_of};
 ghost use Rattle.value_set.specs.Limits.{most_options, most_values};
 ghost use Rattle.value_set.specs.Members.{member};
 ghost use Rattle.record_file.specs.Reading.{Shows};

@@ -1,5 +1,6 @@
 // The relation that the L records of a file make.
-ghost use Rattle.std.specs.Prelude.{◌≡◌, ℕ, ◌+◌, ◌*◌, not, List, pos, ◌*ℤ◌, MatchOption, is_none, position, slice_index};
+ghost use Rattle.std.specs.Prelude.{◌≡◌, ℕ, ◌+◌, ◌*◌, not, List, pos, ◌*ℤ◌, MatchOption, is_none};
+ghost use Rattle.std.specs.Prelude.{position, slice_index};
 ghost use Rattle.std.specs.Int.{w16};
 ghost use Rattle.std.proofs.Common.{to_z};
 ghost use Rattle.record_file.specs.Layout.{HasLetter, l_letter};

@@ -189,5 +189,6 @@ has_mask (suc n) p v =
     ∙ ap₂ ◌||◌ (has_mask n p v) (mask_at n v (p n))
     ∙ ⊎_elim (λ same. let at = ap p same in grind (arith, nat_tests)) (λ other. grind (arith, nat_tests)) (cases_eq v n)
 
+-- below the bound; no function needs it yet
 pub has-mask_below : (n : ℕ) (p : ℕ → Bool) (v : ℕ) → v < n → has (mask_below n p) v ≡ p v
 has-mask_below n p v lt = has_mask n p v ∙ and_yes (p v) _ (lt-ltb v n lt)

@@ -52,6 +52,7 @@ count_some (suc n) p v lt there =
     (λ before. omega (arith, count_some n p v (omega arith) there))
     (cases_eq v n)
 
+-- where the count is 0
 pub none_count : (n : ℕ) (p : ℕ → Bool) → count_below n p ≡ 0 → (v : ℕ) → v < n → p v ≡ false
 none_count n p zero-count v lt =
     ⊎_elim (λ there. absurd (omega (arith, count_some n p v lt there))) (λ missing. missing) (cases_Bool (p v))

@@ -13,6 +13,7 @@ size-le s = count_le 32 (member s)
 pub size_none : (s : ValueSet) → NoMember s → size s ≡ 0
 size_none s none = count_none 32 (member s) (λ v _. none v)
 
+-- and the other way round; no function needs it yet
 pub none_size : (s : ValueSet) → size s ≡ 0 → (v : ℕ) → v < 32 → member s v ≡ false
 none_size s = none_count 32 (member s)
 
@@ -20,7 +21,7 @@ none_size s = none_count 32 (member s)
 pub size_within : (s t : ValueSet) → Within s t → size s ≤ size t
 size_within s t within = count_mono 32 (member s) (member t) (λ v _. within v)
 
--- the union u of disjoint sets s and t
+-- the union u of disjoint sets s and t; no function needs it yet
 pub size_union : (s t u : ValueSet) → ((v : ℕ) → member u v ≡ (member s v || member t v))
     → ((v : ℕ) → member s v ≡ true → member t v ≡ false) → size u ≡ size s + size t
 size_union s t u union apart =
@@ -31,7 +32,7 @@ pub size-without : (s t : ValueSet) (k : ℕ) → k < 32 → member s k ≡ true
 size-without s t k lt there without =
     ap (λ n. n + 1) (count_same 32 (member t) (λ v. member s v && not (eqb v k)) (λ v _. without v)) ∙ count_without 32 (member s) k lt there
 
--- the set t is the set s with the value k added
+-- the set t is the set s with the value k added; no function needs it yet
 pub size_with : (s t : ValueSet) (k : ℕ) → k < 32 → member s k ≡ false → ((v : ℕ) → member t v ≡ (member s v || eqb v k)) → size t ≡ size s + 1
 size_with s t k lt missing with-k =
     count_same 32 (member t) (λ v. member s v || eqb v k) (λ v _. with-k v)

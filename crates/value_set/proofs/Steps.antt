@@ -13,7 +13,8 @@ use Rattle.std.proofs.lemmas.Bool.Decides.{nat_tests}
 use Rattle.value_set.proofs.Bits.{and_yes}
 use Rattle.value_set.proofs.Counts.{count_in, count_le, count_more}
 
--- n values of the set s are passed, those below a bound, and the set rest has the others
+-- n values of the set s are passed, those below a bound, and the set rest has the others: for a loop over the values of a
+-- set, of which no function has one yet that counts
 pub record Passed (s rest : ValueSet) (n : ℕ) : Type 0 where
   pub bound : ℕ
   pub low : bound ≤ 32
