@@ -1,5 +1,5 @@
 -- Which values keep every rule of a list, and the rules after one record more. Assumes nothing.
-use Rattle.std.proofs.Common.{◌≡◌, ℕ, zero, suc, ◌+◌, ◌<◌, ◌≤◌, Bool, true, false, cond, not, ◌&&◌, ◌||◌, T, List, [], ◌∷◌, length, get_or, set, replicate, ℤ, ◌<ℤ◌, Some, None, Decides, Option, sym, refl, ap, ◌∙◌, subst, ap₂, subst₂, arith, true≢false, lt-ltb}
+use Rattle.std.proofs.Common.{◌≡◌, ℕ, zero, suc, ◌+◌, ◌<◌, ◌≤◌, Bool, true, false, cond, not, ◌&&◌, ◌||◌, T, List, [], ◌∷◌, length, get_or, set, replicate, ℤ, ◌<ℤ◌, Some, None, is_some, Decides, Option, sym, refl, ap, ◌∙◌, subst, ap₂, subst₂, arith, true≢false, lt-ltb}
 use lib.Signed.{lt_z}
 use Rattle.std.specs.List.{count_by, position, position_or_len}
 use Rattle.std.specs.Option.{is_none, MatchOption}
@@ -34,6 +34,11 @@ some_free (None ∷ rs) some = let first : position_or_len is_none (None ∷ rs)
 some_free (Some s ∷ rs) some =
     let later : position_or_len is_none (Some s ∷ rs) ≡ 1 + position_or_len is_none rs = refl in
     omega (arith, later, some_free rs some)
+
+pub has_room : (rs : List (Option Inequality)) → 1 ≤ count_by is_none rs → is_some (position is_none rs) ≡ true
+has_room rs some =
+    let found : position is_none rs ≡ Some (position_or_len is_none rs) = rw (lt-ltb (position_or_len is_none rs) (length rs) (some_free rs some)) refl in
+    ap is_some found
 
 module _ (before after : List (Option Inequality)) (r : Inequality) (adds : Adds before r after) (some : 1 ≤ count_by is_none before) where
   added : (t : ℕ) × (after ≡ set before t (Some r)) × (t < length before) × (is_none (get_or before t None) ≡ true)

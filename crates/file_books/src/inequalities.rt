@@ -1,6 +1,6 @@
 // The relation that the L records of a file make.
 ghost use Rattle.std.specs.Prelude.{◌≡◌, ℕ, ◌+◌, ◌*◌, not, List, pos, ◌*ℤ◌, MatchOption, is_none};
-ghost use Rattle.std.specs.Prelude.{position, slice_index};
+ghost use Rattle.std.specs.Prelude.{is_some, position, slice_index};
 ghost use Rattle.std.specs.Int.{w16};
 ghost use Rattle.std.proofs.Common.{to_z};
 ghost use Rattle.record_file.specs.Layout.{HasLetter, l_letter};
@@ -82,12 +82,17 @@ impl Inequalities {
         rules: [None; MOST_INEQUALITIES],
     };
 
-    // Takes in a rule, at the first place that is free.
-    fn add(&mut self, rule: Inequality)
-        ensures { Adds self.old.rules rule self.new.rules }
+    // Takes in a rule, at the first place that is free, and tells whether there is one.
+    fn add(&mut self, rule: Inequality) -> bool
+        ensures adds { Adds self.old.rules rule self.new.rules }
+        ensures room { result ≡ is_some (position is_none self.old.rules) }
     {
-        if let Some(free) = first_free(&self.rules) {
-            self.rules[free] = Some(rule);
+        match first_free(&self.rules) {
+            Some(free) => {
+                self.rules[free] = Some(rule);
+                true
+            }
+            None => false,
         }
     }
 }
@@ -106,7 +111,10 @@ impl Relation for Inequalities {
         // Records are read by their numbers.
         for number in 0..file.len() / RECORD_LENGTH {
             if let Some(rule) = Record::read(file, number).and_then(Inequality::of) {
-                inequalities.add(rule);
+                // No file that the check accepts has a rule more, and of another the first sixteen rules count.
+                if !inequalities.add(rule) {
+                    return inequalities;
+                }
             }
         }
         inequalities
